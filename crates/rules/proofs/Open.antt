@@ -1,0 +1,35 @@
+-- To unfold `all-open` is to unfold every rule, so that the rules compute.
+use Prim.Native.Nat.{ℕ}
+use lib.Ieee.{size, span, climb, units, odd, round, toBits}
+use lib.Count.{trailingZeros}
+use Rattle.rules.specs.Bytes.{ascii, join, has, number-from, number, cap, newline}
+use Rattle.rules.specs.Digits.{digits-in, digits, signed-digits, signed, hex-digit, hex, last-digits, fraction, sign, decimal-text}
+use Rattle.rules.specs.Utf8.{following, utf8-after, utf8}
+use Rattle.rules.specs.Result.{_>>=_, _>>_, need, sound}
+use Rattle.rules.specs.Walk.{holds, allowed, right-length, is-block, right-opacity, right-size, content, complete, tags, front, valued, walk, check}
+use Rattle.rules.specs.Tree.{bytes-of, fields-of, or-empty, map-fields, signed-byte, styles-of, run-of, runs-of, anchor-of, frag-of, read}
+use Rattle.rules.specs.Encode.{field, encode-fields, run-fields, runs-fields, anchor-tag, leaf-fields, block-tag, frag-fields, encode}
+use Rattle.rules.specs.Layout.{or-script, effective, not-negative, byte-width, styled-width, width, _⊕_, last, parts-shape, only-if-block, room, chosen, parts, rigid-text, rigid-runs, rigid, ahead, past, lay, layout}
+use Rattle.rules.specs.Lines.{later, styled, text-ops, run-ops, runs-ops, leaf-ops, ops, start, ignored, joined, target, making, release, levels, spacing, item, broken, step, run, items}
+use Rattle.rules.specs.Plain.{chars, plain, fill}
+use Rattle.rules.specs.Float.{mag, nearest, prefers-lower, choice, at-places, found, from-places, shortest}
+use Rattle.rules.specs.Sizes.{signed-decimal, opacity-text, total, below-zero, rounded, product-of, sum-of, em, em-text}
+use Rattle.rules.specs.Html.{separated, colour-css, weight-css, size-css, script, css, tag-name, attribute, open-tag, close-tag, escape, root, opening, closing, makes, copies, escaped, id-attribute, mark-html, item-html, items-html, body, begins, scope, scope-byte, still-to-skip, with-scope, lines, style-element, before-body, after-body, document}
+use Rattle.rules.specs.Answers.{tree, check-answer, laid-out, changed, left-laid, layout-outcome, plain-text, body-text, document-text, written, left-page, plain-outcome, body-outcome, document-outcome}
+use Rattle.rules.specs.Cases.{nibble, paired, still, pairs, unhex, print-at, answer, case, writes, leaves, nested, call, examples}
+
+unfoldable pub all-open : ℕ
+unfolding
+    trailingZeros size span climb units odd round toBits
+    ascii join has number-from number cap newline digits-in digits signed-digits signed hex-digit hex last-digits fraction sign decimal-text following utf8-after utf8
+    _>>=_ _>>_ need sound holds allowed right-length is-block right-opacity right-size content complete tags front valued walk check
+    bytes-of fields-of or-empty map-fields signed-byte styles-of run-of runs-of anchor-of frag-of read
+    field encode-fields run-fields runs-fields anchor-tag leaf-fields block-tag frag-fields encode
+    or-script effective not-negative byte-width styled-width width _⊕_ last parts-shape only-if-block room chosen parts rigid-text rigid-runs rigid ahead past lay layout
+    later styled text-ops run-ops runs-ops leaf-ops ops start ignored joined target making release levels spacing item broken step run items chars plain fill
+    mag nearest prefers-lower choice at-places found from-places shortest signed-decimal opacity-text total below-zero rounded product-of sum-of em em-text
+    separated colour-css weight-css size-css script css tag-name attribute open-tag close-tag escape root opening closing makes copies escaped id-attribute mark-html item-html items-html body
+    begins scope scope-byte still-to-skip with-scope lines style-element before-body after-body document
+    tree check-answer laid-out changed left-laid layout-outcome plain-text body-text document-text written left-page plain-outcome body-outcome document-outcome
+    nibble paired still pairs unhex print-at answer case writes leaves nested call examples
+all-open = 0

@@ -1,0 +1,142 @@
+-- The file check: house fields, what may stand where, and the walk from the front with refusals 1 and 3 to 9.
+-- X is what stands for a byte of the file: the byte itself, or its place in the file.
+use mathlib.Core.List.{List, [], _∷_, map}
+use mathlib.Core.Option.{Option, none, some}
+use mathlib.Core.Bool.{Bool, true, false, _&&_, _||_, not}
+use Prim.Native.Nat.{ℕ, zero, suc, _+_, _-_}
+use lib.Dec.{leb, ltb, eqb}
+use lib.ListN.{length, take, drop}
+use Rattle.rules.specs.Bytes.{if_then_else_, within, has, number}
+use Rattle.rules.specs.Utf8.{utf8}
+use Rattle.rules.specs.Result.{Result, refused, accepted, _>>=_, _>>_, need, sound}
+
+-- ---- the table of fields
+
+-- what holds fields: the file and 8; 3 and 4; 1; 2; 16
+pub data Holder : Type 0 where
+  in-fragment in-block in-text in-anchor in-styles : Holder
+
+-- what the field of a tag is to the fields in its value; none where its value is bytes
+unfoldable pub holds : ℕ → Option Holder
+holds t =
+    if eqb t 1 then some in-text else
+    if eqb t 2 then some in-anchor else
+    if eqb t 3 || eqb t 4 then some in-block else
+    if eqb t 8 then some in-fragment else
+    if eqb t 16 then some in-styles else
+    none
+
+-- the tag t is allowed there, after the tag before (0 where it is the first)
+unfoldable pub allowed : Holder → (before : ℕ) → ℕ → Bool
+allowed in-fragment before t = within 1 7 t
+allowed in-block before t = eqb t 8
+allowed in-text before t = (eqb before 0 && eqb t 16) || (leb before 16 && eqb t 17)
+allowed in-anchor before t = if eqb before 0 then eqb t 18 || eqb t 19 else eqb t 1
+allowed in-styles before t = within 32 38 t && ltb before t
+
+-- the length n is right for the tag: fixed lengths
+unfoldable pub right-length : ℕ → ℕ → Bool
+right-length t n =
+    if eqb t 5 || eqb t 6 || within 36 38 t then eqb n 0 else
+    if eqb t 32 then eqb n 3 else
+    if eqb t 33 then eqb n 4 else
+    if eqb t 34 || eqb t 35 then eqb n 1 else
+    true
+
+-- blocks, whose depth counts
+unfoldable pub is-block : ℕ → Bool
+is-block t = eqb t 3 || eqb t 4
+
+-- an opacity: +0, or the bits of a float from 1/1024 to 1
+unfoldable pub right-opacity : ℕ → Bool
+right-opacity bits = eqb bits 0 || within 0x3a80_0000 0x3f80_0000 bits
+
+-- a size: a signed byte that is at most 117
+unfoldable pub right-size : ℕ → Bool
+right-size b = leb b 117 || leb 128 b
+
+-- the fault in a value of bytes: a refusal's number, or 0
+unfoldable pub content : ℕ → List ℕ → ℕ
+content t v =
+    if eqb t 17 || eqb t 7 then (if utf8 v then 0 else 7) else
+    if eqb t 18 || eqb t 19 then (if utf8 v then (if has 34 v then 9 else 0) else 7) else
+    if eqb t 33 then (if right-opacity (number v) then 0 else 8) else
+    if eqb t 35 then (if right-size (number v) then 0 else 8) else
+    0
+
+-- the fault in the tags that a value has together: a refusal's number, or 0
+unfoldable pub complete : Holder → List ℕ → ℕ
+complete in-fragment tags = 0
+complete in-block tags = 0
+complete in-text tags = if has 17 tags then 0 else 5
+complete in-anchor tags = if has 18 tags || has 19 tags then 0 else 5
+complete in-styles tags = if (has 33 tags && not (has 32 tags)) || (has 36 tags && has 37 tags) then 8 else 0
+
+-- ---- the walk
+
+-- the fields of a value, in order: a tag with bytes, or a tag with fields inside
+pub data Fields (X : Type 0) : Type 0 where
+  end : Fields X
+  bytes : ℕ → List X → Fields X → Fields X
+  inside : ℕ → Fields X → Fields X → Fields X
+
+unfoldable pub tags : {X : Type 0} → Fields X → List ℕ
+tags end = []
+tags (bytes t v r) = t ∷ tags r
+tags (inside t i r) = t ∷ tags r
+
+-- a field's value, as it was read
+pub data Value (X : Type 0) : Type 0 where
+  of-bytes : List X → Value X
+  of-fields : Fields X → Value X
+
+abbrev pub put : {X : Type 0} → ℕ → Value X → Fields X → Fields X
+put t (of-bytes v) r = bytes t v r
+put t (of-fields i) r = inside t i r
+
+-- a field at the front of some bytes: its tag, its value, and the bytes after it
+pub record Field (X : Type 0) : Type 0 where
+  pub tag : ℕ
+  pub value : List X
+  pub rest : List X
+
+module _ {X : Type 0} (byte : X → ℕ) where
+  -- the field at the front of x ∷ s, at the place p, in the holder h, inside d blocks, after the tag before: three bytes there, tag, length fits, fixed
+  -- length, depth
+  unfoldable pub front : Holder → (d before p : ℕ) → X → List X → Result (Field X)
+  front h d before p x s =
+      let t : ℕ = byte x in
+      let n : ℕ = number (map byte (take 2 s)) in
+      do
+        need (leb 2 (length s)) 3 p
+        need (allowed h before t) 4 p
+        need (leb n (length s - 2)) 3 p
+        need (right-length t n) 5 p
+        need (not (is-block t && leb 32 d)) 6 p
+        accepted (record { tag = t; value = take n (drop 2 s); rest = drop n (drop 2 s) })
+
+  -- its content: sound bytes, or the fields that `read` reads, complete
+  unfoldable pub valued : Option Holder → (t p : ℕ) → List X → (Holder → Result (Fields X)) → Result (Value X)
+  valued none t p v read = do
+    sound (content t (map byte v)) p
+    accepted (of-bytes v)
+  valued (some h) t p v read = do
+    i ← read h
+    sound (complete h (tags i)) p
+    accepted (of-fields i)
+
+  -- the fields s in the holder h, inside d blocks, from the place p on, after the tag before; k bounds how many bytes there are
+  unfoldable pub walk : ℕ → Holder → (d before p : ℕ) → List X → Result (Fields X)
+  walk zero h d before p s = accepted end
+  walk (suc k) h d before p [] = accepted end
+  walk (suc k) h d before p (x ∷ s) = do
+    f ← front h d before p x s
+    v ← valued (holds (f .tag)) (f .tag) p (f .value) (λ h′. walk k h′ (if is-block (f .tag) then suc d else d) 0 (p + 3) (f .value))
+    r ← walk k h d (f .tag) (p + (3 + length (f .value))) (f .rest)
+    accepted (put (f .tag) v r)
+
+  -- the file check: at most 60,000 bytes, then the walk
+  unfoldable pub check : List X → Result (Fields X)
+  check s = do
+    need (leb (length s) 60_000) 1 0
+    walk (length s) in-fragment 0 0 0 s
