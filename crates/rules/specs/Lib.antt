@@ -6,6 +6,7 @@ pub mod Result
 pub mod Walk
 pub mod Tree
 pub mod Encode
+pub mod Good
 pub mod Layout
 pub mod Lines
 pub mod Plain

@@ -1,0 +1,51 @@
+-- What layout changes: some 4s become 3s, and nothing else.
+use mathlib.Core.Bool.{Bool, true, false}
+use Prim.Native.Nat.{ℕ, _-_}
+use lib.Dec.{leb}
+use Rattle.rules.specs.Bytes.{if_then_else_}
+use Rattle.rules.specs.Tree.{Leaf, Kind, indented, flexible, Frag, stop, leaf, block, Frags, none-left, frag}
+use Rattle.rules.specs.Layout.{Shape, Inline, Block, chosen, lay, lay-all, layout}
+
+-- a block's tag may stay, and a 4 may become a 3
+pub data Turn : Kind → Kind → Type 0 where
+  stays : {k : Kind} → Turn k k
+  turned : Turn flexible indented
+
+-- two trees that are equal but for turned tags
+mutual
+  pub data Laid {X : Type 0} : Frag X → Frag X → Type 0 where
+    l-stop : Laid stop stop
+    l-leaf : {n : Leaf X} {r r′ : Frag X} → Laid r r′ → Laid (leaf n r) (leaf n r′)
+    l-block : {k k′ : Kind} {fs fs′ : Frags X} {r r′ : Frag X} → Turn k k′ → Laids fs fs′ → Laid r r′ → Laid (block k fs r) (block k′ fs′ r′)
+
+  pub data Laids {X : Type 0} : Frags X → Frags X → Type 0 where
+    l-none : Laids none-left none-left
+    l-frag : {f f′ : Frag X} {fs fs′ : Frags X} → Laid f f′ → Laids fs fs′ → Laids (frag f fs) (frag f′ fs′)
+
+turn-if : (t : Bool) (s s′ : Shape) → Turn flexible ((if_then_else_ {A = Kind × Shape} t (flexible, s) (indented, s′)) .0)
+turn-if true s s′ = stays
+turn-if false s s′ = turned
+
+turn-chosen : (i : ℕ) (s : Shape) → Turn flexible (chosen i s .0)
+unfolding chosen
+turn-chosen i (Inline w e) = turn-if (leb (w - e) i) _ _
+turn-chosen i (Block pre post) = turned
+
+module _ {X : Type 0} (newline : X → Bool) where
+  mutual
+    unfolding lay
+
+    lay-laid : (t : Frag X) (i b : ℕ) (so : Shape) → Laid t (lay newline t i b so .0)
+    lay-laid stop i b so = l-stop
+    lay-laid (leaf n r) i b so = l-leaf (lay-laid r i b _)
+    lay-laid (block indented fs r) i b so = l-block stays (lay-all-laid fs _ _ _) (lay-laid r i b _)
+    lay-laid (block flexible fs r) i b so = l-block (turn-chosen _ _) (lay-all-laid fs _ _ _) (lay-laid r i b _)
+
+    lay-all-laid : (fs : Frags X) (i b : ℕ) (so : Shape) → Laids fs (lay-all newline fs i b so .0)
+    lay-all-laid none-left i b so = l-none
+    lay-all-laid (frag f fs) i b so = l-frag (lay-laid f i b _) (lay-all-laid fs i b _)
+
+  -- LAYOUT TURNS SOME 4S INTO 3S
+  pub layout-laid : (w : ℕ) (t : Frag X) → Laid t (layout newline w t)
+  unfolding layout
+  layout-laid w t = lay-laid t _ _ _
