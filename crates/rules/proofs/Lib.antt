@@ -14,3 +14,9 @@ pub mod PageMap
 pub mod ReadMap
 pub mod Laid
 pub mod LaidFile
+pub mod Changed
+pub mod Turned
+pub mod Places
+pub mod Masked
+pub mod AlikeMask
+pub mod Filled
