@@ -128,7 +128,7 @@ module _ (kept : List ℕ) where
 
   -- of two accepted files
 
-  places-of-read : (s : List ℕ) (t : Frag ℕ) → Read s t → text-places s ≡ in-texts (frag-fields t)
+  pub places-of-read : (s : List ℕ) (t : Frag ℕ) → Read s t → text-places s ≡ in-texts (frag-fields t)
   unfolding text-places accepted-texts
   places-of-read s t R = simp (R .checked)
 

@@ -20,3 +20,4 @@ pub mod Places
 pub mod Masked
 pub mod AlikeMask
 pub mod Filled
+pub mod Demand3

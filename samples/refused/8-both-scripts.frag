@@ -1,0 +1,2 @@
+# refused 8 at 3: subscript and superscript in one style.
+text {sub sup} "a"
