@@ -22,13 +22,3 @@ pub sound-inv : {B : Type 0} (n p : ℕ) (r : Result B) (b : B) → (sound n p >
 unfolding sound _>>_
 sound-inv zero p r b e = (refl, e)
 sound-inv (suc n) p r b e = no-path (cc)
-
--- a refused chain: the first step that was refused answers
-pub data RefusedBy {A B : Type 0} (m : Result A) (f : A → Result B) (n p : ℕ) : Type 0 where
-  at-once : m ≡ refused n p → RefusedBy m f n p
-  later : (a : A) → m ≡ accepted a → f a ≡ refused n p → RefusedBy m f n p
-
-pub bind-refused : {A B : Type 0} (m : Result A) (f : A → Result B) (n p : ℕ) → (m >>= f) ≡ refused n p → RefusedBy m f n p
-unfolding _>>=_
-bind-refused (refused k q) f n p e = let a : k ≡ n = cc in let b : q ≡ p = cc in at-once (λ i. refused (a i) (b i))
-bind-refused (accepted a) f n p e = later a refl e

@@ -21,3 +21,7 @@ pub mod Masked
 pub mod AlikeMask
 pub mod Filled
 pub mod Demand3
+pub mod Refused
+pub mod Nearest
+pub mod Shortest
+pub mod EmSizes
