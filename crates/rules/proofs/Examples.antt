@@ -1,9 +1,15 @@
--- Document 01's checked examples hold of the rules: one statement over the list of them, computed.
+-- Document 01's checked examples hold of the rules, and refused files are refused with number and place: each one statement over a list, computed.
 use mathlib.Core.Path.{_≡_, refl}
 use mathlib.Core.List.{map}
 use Rattle.rules.specs.Cases.{Case, answer, examples}
+use Rattle.rules.specs.Result.{refused}
+use Rattle.rules.specs.Refusals.{Refused-case, answers, refusals}
 use Rattle.rules.proofs.Open.{all-open}
 
 pub examples-hold : map (λ c. answer (c .asked) (c .file)) examples ≡ map (λ c. c .right) examples
 unfolding all-open
 examples-hold = refl
+
+pub refusals-hold : map (λ c. answers (c .entry) (c .file)) refusals ≡ map (λ c. refused (c .number) (c .place)) refusals
+unfolding all-open
+refusals-hold = refl

@@ -25,3 +25,5 @@ pub mod Refused
 pub mod Nearest
 pub mod Shortest
 pub mod EmSizes
+pub mod Printed
+pub mod Unique

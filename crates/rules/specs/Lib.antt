@@ -16,3 +16,4 @@ pub mod Html
 pub mod Answers
 pub mod Mask
 pub mod Cases
+pub mod Refusals

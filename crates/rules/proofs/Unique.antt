@@ -1,0 +1,43 @@
+-- No second outcome: an answer is fixed by what it says, so two outcomes that satisfy a public contract are equal, the lent bytes with them.
+use mathlib.Core.Path.{_≡_, refl, sym, _∙_, ap}
+use mathlib.Core.List.{List, [], _∷_}
+use Prim.Native.Nat.{ℕ, suc, _-_}
+use lib.ListN.{getD}
+use Rattle.rules.specs.declared.Refusal.{Refusal}
+use Rattle.rules.specs.declared.Refusal.the-variants.{TooLong, TooWide, Cut, WrongTag, WrongLength, TooDeep, NotUtf8, BadStyle, QuoteInAnchor, PageTooShort}
+use Rattle.rules.specs.declared.Answer.{Answer}
+use Rattle.rules.specs.declared.Answer.the-variants.{Done, Refused}
+use Rattle.rules.specs.Result.{Result, refused, accepted, refusal, said}
+
+-- the refusal of a number and a place, and the answer that says something
+abbrev by-number : ℕ → ℕ → Refusal
+by-number n p =
+    getD
+    (TooLong ∷ TooWide ∷ Cut p ∷ WrongTag p ∷ WrongLength p ∷ TooDeep p ∷ NotUtf8 p ∷ BadStyle p ∷ QuoteInAnchor p ∷ PageTooShort p ∷ [])
+    (n - 1) TooLong
+
+abbrev answer-of : Result ℕ → Answer
+answer-of (refused n p) = Refused (by-number n p)
+answer-of (accepted n) = Done n
+
+answer-back : (a : Answer) → answer-of (said a) ≡ a
+unfolding said refusal
+answer-back (Done n) = refl
+answer-back (Refused TooLong) = refl
+answer-back (Refused TooWide) = refl
+answer-back (Refused (Cut p)) = refl
+answer-back (Refused (WrongTag p)) = refl
+answer-back (Refused (WrongLength p)) = refl
+answer-back (Refused (TooDeep p)) = refl
+answer-back (Refused (NotUtf8 p)) = refl
+answer-back (Refused (BadStyle p)) = refl
+answer-back (Refused (QuoteInAnchor p)) = refl
+answer-back (Refused (PageTooShort p)) = refl
+
+-- TWO ANSWERS THAT SAY THE SAME ARE THE SAME
+pub said-unique : (a b : Answer) → said a ≡ said b → a ≡ b
+said-unique a b e = sym (answer-back a) ∙ ap answer-of e ∙ answer-back b
+
+-- TWO OUTCOMES THAT SATISFY A CONTRACT ARE EQUAL: `o` is what the contract's definition gives
+pub outcome-unique : (o : Result ℕ × List ℕ) (a b : Answer) (s u : List ℕ) → (said a, s) ≡ o → (said b, u) ≡ o → (a ≡ b) × (s ≡ u)
+outcome-unique o a b s u x y = (said-unique a b (ap (λ p. p .0) x ∙ sym (ap (λ p. p .0) y)), ap (λ p. p .1) x ∙ sym (ap (λ p. p .1) y))
