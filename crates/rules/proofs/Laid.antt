@@ -1,10 +1,8 @@
 -- What layout changes: some 4s become 3s, and nothing else.
 use mathlib.Core.Bool.{Bool, true, false}
-use Prim.Native.Nat.{ℕ, _-_}
-use lib.Dec.{leb}
-use Rattle.rules.specs.Bytes.{if_then_else_}
+use Prim.Native.Nat.{ℕ}
 use Rattle.rules.specs.Tree.{Leaf, Kind, indented, flexible, Frag, stop, leaf, block, Frags, none-left, frag}
-use Rattle.rules.specs.Layout.{Shape, Inline, Block, chosen, lay, lay-all, layout}
+use Rattle.rules.specs.Layout.{Shape, Inline, Block, kept-inline, chosen, lay, lay-all, layout}
 
 -- a block's tag may stay, and a 4 may become a 3
 pub data Turn : Kind → Kind → Type 0 where
@@ -22,13 +20,14 @@ mutual
     l-none : Laids none-left none-left
     l-frag : {f f′ : Frag X} {fs fs′ : Frags X} → Laid f f′ → Laids fs fs′ → Laids (frag f fs) (frag f′ fs′)
 
-turn-if : (t : Bool) (s s′ : Shape) → Turn flexible ((if_then_else_ {A = Kind × Shape} t (flexible, s) (indented, s′)) .0)
-turn-if true s s′ = stays
-turn-if false s s′ = turned
+turn-kept : (fits : Bool) (candidate : ℕ) → Turn flexible (kept-inline fits candidate .0)
+unfolding kept-inline
+turn-kept true candidate = stays
+turn-kept false candidate = turned
 
 turn-chosen : (i : ℕ) (s : Shape) → Turn flexible (chosen i s .0)
 unfolding chosen
-turn-chosen i (Inline w e) = turn-if (leb (w - e) i) _ _
+turn-chosen i (Inline w e) = turn-kept _ _
 turn-chosen i (Block pre post) = turned
 
 module _ {X : Type 0} (newline : X → Bool) where

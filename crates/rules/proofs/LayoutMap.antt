@@ -8,7 +8,7 @@ use lib.ListN.{length-map}
 use Rattle.rules.specs.Bytes.{if_then_else_}
 use Rattle.rules.specs.Walk.{Fields}
 use Rattle.rules.specs.Tree.{Run, Leaf, text, anchor, space, force, if-block, Kind, indented, flexible, Frag, stop, leaf, block, Frags, none-left, frag}
-use Rattle.rules.specs.Layout.{parts, Shape, Inline, Block, _⊕_, width, last, room, rigid-text, rigid-runs, rigid, ahead, past, chosen, lay, lay-all, layout, parts-shape, only-if-block}
+use Rattle.rules.specs.Layout.{parts, Shape, Inline, Block, _⊕_, width, last, room, stretch, rigid-text, rigid-runs, rigid, ahead, past, chosen, lay, lay-all, layout, parts-shape, only-if-block}
 use Rattle.rules.proofs.Maps.{map-run, map-leaf, map-frag, map-frags}
 
 module _ {X Y : Type 0} (f : X → Y) (newline : Y → Bool) where
@@ -63,8 +63,7 @@ module _ {X Y : Type 0} (f : X → Y) (newline : Y → Bool) where
   ahead-map : (so : Shape) (t : Frag X) → ahead newline so (map-frag f t) ≡ ahead old so t
   unfolding ahead
   ahead-map so stop = refl
-  ahead-map so (leaf n r) =
-      λ i. elim (rigid-map n i) [ Inline w e ↦ ahead-map (so ⊕ Inline w e) r i | Block pre post ↦ so ⊕ Inline pre 0 ]
+  ahead-map so (leaf n r) = λ i. stretch so (rigid-map n i) (ahead-map (so ⊕ rigid-map n i) r i)
   ahead-map so (block indented fs r) = refl
   ahead-map so (block flexible fs r) = ahead-map (so ⊕ Inline 0 0) r
 

@@ -61,9 +61,9 @@ enough : (j k n : ℕ) → n ≤ j → n ≤ k → inner j n ≡ inner k n
 enough zero k n a b = inner-small zero n (omega arith) ∙ sym (inner-small k n (omega arith))
 enough (suc j) zero n a b = inner-small (suc j) n (omega arith) ∙ sym (inner-small zero n (omega arith))
 enough (suc j) (suc k) n a b =
-    elim (decLt n 10)
-    [ yes h ↦ inner-small (suc j) n h ∙ sym (inner-small (suc k) n h)
-    | no h ↦ inner-large j n (omega arith) ∙ ap (λ (l : List ℕ). l ++ (digit (n % 10) ∷ [])) (enough j k (n / 10) (omega arith) (omega arith)) ∙ sym (inner-large k n (omega arith))
+    elim (decLt n 10) [
+      | yes h ↦ inner-small (suc j) n h ∙ sym (inner-small (suc k) n h)
+      | no h ↦ inner-large j n (omega arith) ∙ ap (λ (l : List ℕ). l ++ (digit (n % 10) ∷ [])) (enough j k (n / 10) (omega arith) (omega arith)) ∙ sym (inner-large k n (omega arith))
     ]
 
 pub digits-small : (n : ℕ) → n < 10 → digits n ≡ digit (n % 10) ∷ []
@@ -98,7 +98,7 @@ more-right n h R =
     (record {
       digits-only = digits-append (digits (n / 10)) (digit (n % 10) ∷ []) (R .digits-only) (one-digit n);
       no-leading-zero = first-kept (n / 10) (digit (n % 10)) (digits (n / 10)) (omega arith) (R .no-leading-zero) (R .gives);
-      gives = value-append 0 (digits (n / 10)) (digit (n % 10)) ∙ omega (arith, R .gives)
+      gives = value-append 0 (digits (n / 10)) (digit (n % 10)) ∙ omega (arith, R .gives);
     })
 
 right-in : (k n : ℕ) → n ≤ k → Right n (digits n)

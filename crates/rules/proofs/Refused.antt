@@ -160,3 +160,22 @@ refused-place s n p e = go (leb (length s) 60_000) (walk itself (length s) in-fr
         let x : m ≡ n = cc in
         let y : r ≡ p = cc in
         at-fault (rw x at (S .fault)) (omega (arith, S .to))
+
+-- ONE VERDICT: every file, a cut one too, is accepted or refused, and never both
+pub data Verdict (s : List ℕ) : Type 0 where
+  is-accepted : (t : Frag ℕ) → tree s ≡ accepted t → Verdict s
+  is-refused : (n p : ℕ) → tree s ≡ refused n p → Refusable s n p → Verdict s
+
+pub verdict : (s : List ℕ) → Verdict s
+verdict s = go (tree s) refl
+  where
+    go : (r : Result (Frag ℕ)) → tree s ≡ r → Verdict s
+    go (accepted t) e = is-accepted t e
+    go (refused n p) e = is-refused n p e (refused-place s n p e)
+
+pub never-both : (s : List ℕ) (t : Frag ℕ) (n p : ℕ) → tree s ≡ accepted t → tree s ≡ refused n p → ⊥
+never-both s t n p x y = let z : _≡_ {A = ℕ} 0 1 = cc in no-path z
+
+-- the bytes of an accepted file up to any place: one verdict, at a place of what is left
+pub cut-verdict : (s : List ℕ) (k : ℕ) → Verdict (take k s)
+cut-verdict s k = verdict (take k s)

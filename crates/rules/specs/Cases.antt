@@ -138,4 +138,9 @@ examples =
     ∷ record { asked = verdict; file = nested 32; right = accepted [] }
     ∷ record { asked = verdict; file = nested 33; right = refused 6 192 }
     ∷ case verdict "63" (refused 3 0)
+    -- a tag 4 whose line is ended by a later text: that text's pre counts before the tag 4 is laid out
+    ∷ case (printed 3) "04000B 080008 0100051100026162 010007 110004 63640A65" (writes "  ab\ncd\ne")
+    ∷ case (printed 4) "04000B 080008 0100051100026162 010007 110004 63640A65" (writes "abcd\ne")
+    -- an ignored break leaves the one that waits
+    ∷ case (printed 80) "03000C 080009 010006 100000 110000 050000 03000A 080007 010004 11000178" (writes "   x")
     ∷ []

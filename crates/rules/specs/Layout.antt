@@ -77,11 +77,20 @@ unfoldable pub room : (i b : ℕ) → Shape → ℕ
 room i b (Inline worst excess) = i - worst
 room i b (Block pre post) = b - post
 
--- what a tag 4 becomes, by its inline maximum i and its fragments' shape, and its flexible layout
+-- a tag 4 whose inline candidate fits stays, Inline (candidate, 0); else it becomes a 3, Block (0, 0)
+unfoldable pub kept-inline : (fits : Bool) → (candidate : ℕ) → Kind × Shape
+kept-inline true candidate = (flexible, Inline candidate 0)
+kept-inline false candidate = (indented, Block 0 0)
+
+-- the candidate is worst less excess, against the inline maximum i; a Block has none
 unfoldable pub chosen : (i : ℕ) → Shape → Kind × Shape
-chosen i (Inline worst excess) =
-    if leb (worst - excess) i then (flexible, Inline (worst - excess) 0) else (indented, Block 0 0)
+chosen i (Inline worst excess) = kept-inline (leb (worst - excess) i) (worst - excess)
 chosen i (Block pre post) = (indented, Block 0 0)
+
+-- the rigid layouts of a stretch, with a node's own: an Inline goes on with what is `further`, a Block ends it with its pre
+unfoldable pub stretch : (so-far own further : Shape) → Shape
+stretch so-far (Inline worst excess) further = further
+stretch so-far (Block pre post) further = so-far ⊕ Inline pre 0
 
 module _ {X : Type 0} (newline : X → Bool) where
   unfoldable pub parts : List X → List X × List (List X)
@@ -104,12 +113,12 @@ module _ {X : Type 0} (newline : X → Bool) where
   rigid force = Block 0 0
   rigid (if-block v) = only-if-block (rigid-text none v)
 
-  -- a fragment's rigid layouts are appended ahead of its flexible ones, a stretch at a time: up to the next rigid Block, of which the stretch has pre.
-  -- A tag 3 is a rigid Block (0, 0), a tag 4 a rigid Inline (0, 0)
+  -- a fragment's rigid layouts are appended ahead of its flexible ones, a stretch at a time: up to the next rigid Block. A tag 3 is a rigid
+  -- Block (0, 0), a tag 4 a rigid Inline (0, 0)
   unfoldable pub ahead : Shape → Frag X → Shape
   ahead so-far stop = so-far
-  ahead so-far (leaf n r) = elim (rigid n) [ Inline w e ↦ ahead (so-far ⊕ Inline w e) r | Block pre post ↦ so-far ⊕ Inline pre 0 ]
-  ahead so-far (block indented fs r) = so-far ⊕ Inline 0 0
+  ahead so-far (leaf n r) = let further : Shape = ahead (so-far ⊕ rigid n) r in stretch so-far (rigid n) further
+  ahead so-far (block indented fs r) = stretch so-far (Block 0 0) so-far
   ahead so-far (block flexible fs r) = ahead (so-far ⊕ Inline 0 0) r
 
   -- past a node whose flexible layout is appended, by its rigid layout: a Block appends Block (0, post), and the next stretch
