@@ -27,3 +27,4 @@ pub mod Shortest
 pub mod EmSizes
 pub mod Printed
 pub mod Unique
+pub mod Recorded
