@@ -1,0 +1,250 @@
+//! The commands: what each reads, prints and exits with.
+
+use crate::answers::{answer, rendered, Answer, Operation, Request};
+use crate::check::check;
+use crate::compare::{self, Stop, Tally};
+use crate::damage::noise;
+use crate::examples;
+use crate::hex::hex;
+use crate::options::Options;
+use crate::random::Random;
+use crate::record;
+use crate::selftest;
+use crate::subject::{Child, Oneself, Subject};
+use crate::wire;
+use std::fs;
+use std::io::{self, Read, Write};
+use std::path::Path;
+use std::process::ExitCode;
+use std::time::{Instant, SystemTime, UNIX_EPOCH};
+
+const USAGE: &str = "\
+oracle COMMAND: the Rust original's answers for fragment files
+
+  examples                     checks the judge by the examples of document 01
+  ask OP [--width W] [--room N] FILE
+                               OP is check, layout, plain, body or document;
+                               prints `accepted`, the raw file or the raw page,
+                               or `refused N at P`
+  answers < REQUESTS > ANSWERS answers a request batch, a line for each
+  respond < REQUESTS > RESPONSES
+                               the same as a response batch: the judge as a
+                               subject of another judge
+  record DIR                   writes the recorded answers
+  lines [--seed S] [--files N] prints files in hex with the check's answer
+  compare --subject WHAT [--parts P,P] [--seed S] [--files N]
+                               WHAT is `self` or a command that reads a request
+                               batch and writes the response batch
+  selftest [--seed S] [--files N]
+                               tests the judge itself
+  help                         prints this
+
+Exit: 0 well, 1 something does not hold or is refused, 2 used wrongly.
+";
+
+/// Something that the one who called did wrong.
+type Mistake = String;
+
+pub fn run(words: &[String]) -> Result<ExitCode, Mistake> {
+    let (command, rest) = words.split_first().ok_or("which command?")?;
+    match command.as_str() {
+        "examples" => run_examples(&Options::new(rest, &[])?),
+        "ask" => run_ask(&Options::new(rest, &["width", "room"])?),
+        "answers" => run_answers(&Options::new(rest, &[])?),
+        "respond" => run_respond(&Options::new(rest, &[])?),
+        "record" => run_record(&Options::new(rest, &[])?),
+        "lines" => run_lines(&Options::new(rest, &["seed", "files"])?),
+        "compare" => run_compare(&Options::new(rest, &["subject", "parts", "seed", "files"])?),
+        "selftest" => run_selftest(&Options::new(rest, &["seed", "files"])?),
+        "help" | "--help" => print(USAGE.as_bytes()),
+        other => Err(format!("no command {other}")),
+    }
+}
+
+/// A reader that stops early, such as `head`, is no fault.
+fn print(bytes: &[u8]) -> Result<ExitCode, Mistake> {
+    match io::stdout().lock().write_all(bytes) {
+        Err(e) if e.kind() != io::ErrorKind::BrokenPipe => Err(e.to_string()),
+        _ => Ok(ExitCode::SUCCESS),
+    }
+}
+
+fn run_examples(options: &Options) -> Result<ExitCode, Mistake> {
+    let [] = options.words()?;
+    let examples = examples::all();
+    let failures = examples::failures(&examples);
+    for failure in &failures {
+        println!("does not hold: {failure}");
+    }
+    println!("{} examples hold", examples.len() - failures.len());
+    Ok(ExitCode::from(u8::from(!failures.is_empty())))
+}
+
+fn run_ask(options: &Options) -> Result<ExitCode, Mistake> {
+    let [operation, path] = options.words()?;
+    let operation = named(operation)?;
+    let file = fs::read(path).map_err(|e| format!("{path}: {e}"))?;
+    let width = options.number("width")?.unwrap_or(80);
+    let length = || rendered(operation, &file).map_or(0, |page| page.len());
+    let room = match options.number("room")? {
+        Some(room) => room,
+        None if operation.is_page() => length(),
+        None => 0,
+    };
+    let said = answer(&Request {
+        operation,
+        width,
+        room,
+        file,
+    });
+    match said.answer {
+        Answer::Accepted(count) if operation.is_page() => print(&said.lent[..count]),
+        Answer::Accepted(_) if operation == Operation::Check => print(b"accepted\n"),
+        Answer::Accepted(_) => print(&said.lent),
+        refused => {
+            println!("{}", wire::answer_words(refused));
+            Ok(ExitCode::FAILURE)
+        }
+    }
+}
+
+fn named(name: &str) -> Result<Operation, Mistake> {
+    Operation::named(name).ok_or(format!("no operation {name}"))
+}
+
+/// The request batch on standard input.
+fn batch() -> Result<Vec<Request>, Mistake> {
+    let mut batch = Vec::new();
+    let read = io::stdin().lock().read_to_end(&mut batch);
+    read.map_err(|e| format!("standard input: {e}"))?;
+    wire::requests(&batch)
+}
+
+fn run_answers(options: &Options) -> Result<ExitCode, Mistake> {
+    let [] = options.words()?;
+    let requests = batch()?;
+    let lines = requests
+        .iter()
+        .map(|request| wire::answer_line(&answer(request)) + "\n");
+    print(lines.collect::<String>().as_bytes())
+}
+
+fn run_respond(options: &Options) -> Result<ExitCode, Mistake> {
+    let [] = options.words()?;
+    let mut responses = Vec::new();
+    for request in batch()? {
+        wire::put_outcome(&mut responses, &answer(&request));
+    }
+    print(&responses)
+}
+
+fn run_record(options: &Options) -> Result<ExitCode, Mistake> {
+    let [folder] = options.words()?;
+    for line in record::write(Path::new(folder))? {
+        println!("{line}");
+    }
+    Ok(ExitCode::SUCCESS)
+}
+
+/// The seed asked for, else one from the clock.
+fn seed(options: &Options) -> Result<u64, Mistake> {
+    let clock = || SystemTime::now().duration_since(UNIX_EPOCH);
+    match options.number("seed")? {
+        Some(seed) => Ok(seed),
+        None => Ok(clock().map_or(0, |time| time.as_micros() as u64)),
+    }
+}
+
+fn run_lines(options: &Options) -> Result<ExitCode, Mistake> {
+    let [] = options.words()?;
+    let seed = seed(options)?;
+    let files = options.number("files")?.unwrap_or(1_000_u64);
+    eprintln!("seed {seed}");
+    let random = (0..files).map(|index| compare::any_file(&mut Random::new(seed, index)));
+    let mut out = io::BufWriter::new(io::stdout().lock());
+    for file in noise::all_short().chain(random) {
+        let said = match check(&file) {
+            Ok(()) => "accepted".into(),
+            Err(refusal) => wire::answer_words(refusal.into()),
+        };
+        match writeln!(out, "{} {said}", hex(&file)) {
+            Err(e) if e.kind() == io::ErrorKind::BrokenPipe => break,
+            done => done.map_err(|e| e.to_string())?,
+        }
+    }
+    Ok(ExitCode::SUCCESS)
+}
+
+fn parts(options: &Options) -> Result<Vec<Operation>, Mistake> {
+    match options.text("parts") {
+        Some(names) => names.split(',').map(named).collect(),
+        None => Ok(Operation::ALL.to_vec()),
+    }
+}
+
+fn run_compare(options: &Options) -> Result<ExitCode, Mistake> {
+    let [] = options.words()?;
+    let parts = parts(options)?;
+    let seed = seed(options)?;
+    let files = options.number("files")?.unwrap_or(20_000);
+    let mut subject: Box<dyn Subject> = match options.text("subject") {
+        Some("self") => Box::new(Oneself),
+        Some(command) => Box::new(Child::new(command, &parts)?),
+        None => return Err("compare needs a --subject".into()),
+    };
+    if let Some(part) = parts.iter().find(|part| !subject.parts().contains(part)) {
+        return Err(format!("the subject does not answer {}", part.name()));
+    }
+    println!("seed {seed}");
+    let start = Instant::now();
+    match compare_all(&mut *subject, &parts, seed, files) {
+        Ok(files) => {
+            let per_second = files as f64 / start.elapsed().as_secs_f64();
+            println!("no disagreement; {per_second:.0} files per second");
+            Ok(ExitCode::SUCCESS)
+        }
+        Err(Stop::Differs(difference)) => {
+            println!("disagreement: {}", difference.words());
+            Ok(ExitCode::FAILURE)
+        }
+        Err(Stop::CannotAsk(why)) => Err(why),
+    }
+}
+
+/// All short files, then the random ones; how many in all.
+fn compare_all(
+    subject: &mut dyn Subject,
+    parts: &[Operation],
+    seed: u64,
+    files: u64,
+) -> Result<u64, Stop> {
+    let short = compare::run_short(subject, parts)?;
+    println!("short files: {}", words(&short));
+    let random = compare::run(subject, parts, seed, files)?;
+    println!("random files: {}", words(&random));
+    Ok(short.files + random.files)
+}
+
+fn words(tally: &Tally) -> String {
+    let (files, accepted, requests) = (tally.files, tally.accepted, tally.requests);
+    format!("{files}, of them accepted {accepted}, requests {requests}")
+}
+
+fn run_selftest(options: &Options) -> Result<ExitCode, Mistake> {
+    let [] = options.words()?;
+    let seed = seed(options)?;
+    let files = options.number("files")?.unwrap_or(20_000);
+    println!("seed {seed}");
+    let start = Instant::now();
+    match selftest::run(seed, files) {
+        Ok(found) => {
+            println!("{}", found.join("\n"));
+            println!("all holds, in {:.1} s", start.elapsed().as_secs_f64());
+            Ok(ExitCode::SUCCESS)
+        }
+        Err(why) => {
+            println!("{why}");
+            Ok(ExitCode::FAILURE)
+        }
+    }
+}

@@ -1,0 +1,196 @@
+//! Compares a subject with the judge over random files, and makes the first disagreement small.
+
+use crate::answers::{self, Answer, Operation, Outcome, Request};
+use crate::damage::{self, noise};
+use crate::field;
+use crate::generate;
+use crate::hex::hex;
+use crate::random::Random;
+use crate::shrink::shrink;
+use crate::subject::{Said, Subject};
+use crate::wire;
+
+/// So many files go into one batch.
+const BATCH: u64 = 200;
+
+/// A request with what is right for it.
+struct Case {
+    request: Request,
+    right: Outcome,
+}
+
+/// What a run went through.
+#[derive(Default)]
+pub struct Tally {
+    pub files: u64,
+    pub accepted: u64,
+    pub requests: u64,
+}
+
+/// The smallest request found on which subject and judge differ.
+pub struct Disagreement {
+    pub request: Request,
+    right: Outcome,
+    said: Said,
+}
+
+/// Why a run did not end well.
+pub enum Stop {
+    Differs(Box<Disagreement>),
+    CannotAsk(String),
+}
+
+/// Asks for `files` random files; the same seed asks the same again.
+pub fn run(
+    subject: &mut dyn Subject,
+    parts: &[Operation],
+    seed: u64,
+    files: u64,
+) -> Result<Tally, Stop> {
+    let mut tally = Tally::default();
+    let mut next = 0;
+    while next < files {
+        let end = files.min(next + BATCH);
+        let mut cases = Vec::new();
+        for index in next..end {
+            let mut random = Random::new(seed, index);
+            let file = any_file(&mut random);
+            ask_all(&mut random, &file, parts, &mut cases, &mut tally);
+        }
+        judge(subject, &cases)?;
+        next = end;
+    }
+    Ok(tally)
+}
+
+/// Asks for all short files over the two alphabets.
+pub fn run_short(subject: &mut dyn Subject, parts: &[Operation]) -> Result<Tally, Stop> {
+    let mut tally = Tally::default();
+    let mut cases = Vec::new();
+    for (index, file) in noise::all_short().enumerate() {
+        let mut random = Random::new(0, index as u64);
+        ask_all(&mut random, &file, parts, &mut cases, &mut tally);
+        if cases.len() > 2_000 {
+            judge(subject, &cases)?;
+            cases.clear();
+        }
+    }
+    judge(subject, &cases)?;
+    Ok(tally)
+}
+
+/// An accepted file or a damaged one.
+pub fn any_file(random: &mut Random) -> Vec<u8> {
+    match random.one_in(2) {
+        true => field::encode(&generate::fields(random)),
+        false => damage::file(random),
+    }
+}
+
+/// All requests for one file.
+fn ask_all(
+    random: &mut Random,
+    file: &[u8],
+    parts: &[Operation],
+    cases: &mut Vec<Case>,
+    tally: &mut Tally,
+) {
+    let before = cases.len();
+    let width = generate::width(random, file.len());
+    let laid_out = answers::answer(&Request::layout(width, file.to_vec()));
+    let accepted = matches!(laid_out.answer, Answer::Accepted(_));
+    for part in parts {
+        match part {
+            Operation::Check => ask(Request::check(file.to_vec()), cases),
+            Operation::Layout => {
+                // Once, again at the same width, and at another.
+                let other = generate::width(random, file.len());
+                let again = laid_out.lent.clone();
+                ask(Request::layout(width, file.to_vec()), cases);
+                ask(Request::layout(width, again.clone()), cases);
+                ask(Request::layout(other, again), cases);
+            }
+            page => {
+                let laid = accepted && random.one_in(2);
+                let file = if laid { &laid_out.lent } else { file };
+                ask_page(random, *page, file, cases);
+            }
+        }
+    }
+    tally.files += 1;
+    tally.accepted += u64::from(crate::check::check(file).is_ok());
+    tally.requests += (cases.len() - before) as u64;
+}
+
+fn ask(request: Request, cases: &mut Vec<Case>) {
+    let right = answers::answer(&request);
+    cases.push(Case { request, right });
+}
+
+/// One page in rooms of no byte, a byte too few, just enough, and more with a guard behind.
+fn ask_page(random: &mut Random, page: Operation, file: &[u8], cases: &mut Vec<Case>) {
+    let rendered = answers::rendered(page, file);
+    let length = rendered.as_ref().map_or(4, Vec::len);
+    let more = random.between(1, 40);
+    let mut rooms = vec![0, length.saturating_sub(1), length, length + more];
+    rooms.dedup();
+    for room in rooms {
+        cases.push(Case {
+            request: Request::page(page, room, file.to_vec()),
+            right: answers::page_outcome(&rendered, room),
+        });
+    }
+}
+
+/// Compares a batch; the first difference is made small.
+fn judge(subject: &mut dyn Subject, cases: &[Case]) -> Result<(), Stop> {
+    if cases.is_empty() {
+        return Ok(());
+    }
+    let requests: Vec<Request> = cases.iter().map(|case| case.request.clone()).collect();
+    let said = subject.answer(&requests).map_err(Stop::CannotAsk)?;
+    if said.len() != cases.len() {
+        let (few, many) = (said.len(), cases.len());
+        return Err(Stop::CannotAsk(format!("{few} answers to {many} requests")));
+    }
+    let differs = |(case, said): &(&Case, Said)| said.as_ref() != Ok(&case.right);
+    match cases.iter().zip(said).find(differs) {
+        None => Ok(()),
+        Some((case, _)) => Err(Stop::Differs(Box::new(smallest(subject, &case.request)))),
+    }
+}
+
+fn smallest(subject: &mut dyn Subject, request: &Request) -> Disagreement {
+    let request = shrink(request.clone(), &mut |tried| {
+        let said = subject.answer(tried).ok()?;
+        let mut pairs = tried.iter().zip(said);
+        pairs.position(|(request, said)| said != Ok(answers::answer(request)))
+    });
+    let said = subject.answer(std::slice::from_ref(&request));
+    let said = match said.map(|mut said| said.pop()) {
+        Ok(Some(said)) => said,
+        Ok(None) => Err("no answer".into()),
+        Err(why) => Err(why),
+    };
+    Disagreement {
+        right: answers::answer(&request),
+        request,
+        said,
+    }
+}
+
+impl Disagreement {
+    pub fn words(&self) -> String {
+        let request = wire::request_words(&self.request);
+        let right = wire::answer_line(&self.right);
+        let said = match &self.said {
+            Ok(outcome) => wire::answer_line(outcome),
+            Err(why) => why.clone(),
+        };
+        let batch = hex(&wire::put_requests(std::slice::from_ref(&self.request)));
+        format!(
+            "{request}\n  as a request:     {batch}\n  \
+             the Rust says:    {right}\n  the subject said: {said}"
+        )
+    }
+}

@@ -1,0 +1,247 @@
+//! What has to hold of the judge itself, for accepted files and for any bytes.
+
+use crate::answers::{answer, page_outcome, rendered, Answer, Operation, Outcome, Request, LENT};
+use crate::check::check;
+use crate::field::{self, Field};
+use crate::tags::*;
+use crate::tree;
+
+/// Holds or says what is wrong.
+pub type Held = Result<(), String>;
+
+/// A property of a file, with a width where it needs one.
+pub type Property = (&'static str, fn(&[u8], u16) -> Held);
+
+/// Of accepted files.
+pub const OF_ACCEPTED: [Property; 8] = [
+    ("generated files are accepted", accepted),
+    ("decoding and encoding give the file back", there_and_back),
+    ("layout only turns 4s into 3s", layout_changes_4_to_3),
+    ("a second layout is as sound as the first", second_layout),
+    ("the body without its tags is the plain page", body_is_plain),
+    ("the document holds the body", document_holds_body),
+    ("a page is refused by 10 just when it does not fit", rooms),
+    ("a mask has the same layout and the same lines", mask),
+];
+
+/// Of any bytes.
+pub const OF_ANY: [Property; 3] = [
+    (
+        "every operation gives the refusal of the check",
+        same_refusal,
+    ),
+    ("a refusal stands within the file", place_within),
+    ("the loose tree gives the bytes back", loose_tree),
+];
+
+fn ensure(holds: bool, why: impl FnOnce() -> String) -> Held {
+    match holds {
+        true => Ok(()),
+        false => Err(why()),
+    }
+}
+
+fn accepted(file: &[u8], _: u16) -> Held {
+    check(file).map_err(|refusal| format!("{refusal:?}"))
+}
+
+fn there_and_back(file: &[u8], _: u16) -> Held {
+    ensure(tree::there_and_back(file) == file, || "another file".into())
+}
+
+/// The count and the file of an accepted layout.
+fn laid_out(file: &[u8], width: u16) -> Result<(usize, Vec<u8>), String> {
+    let width = width.min(LARGEST_WIDTH);
+    match answer(&Request::layout(width, file.to_vec())) {
+        Outcome {
+            answer: Answer::Accepted(count),
+            lent,
+        } => Ok((count, lent)),
+        other => Err(format!("refused: {:?}", other.answer)),
+    }
+}
+
+/// Compares by the fields, not by the bytes alone: only tags of blocks may differ.
+fn layout_changes_4_to_3(file: &[u8], width: u16) -> Held {
+    let (count, after) = laid_out(file, width)?;
+    ensure(after.len() == file.len(), || "another length".into())?;
+    check(&after).map_err(|refusal| format!("the result has {refusal:?}"))?;
+    let fields = field::parse(file);
+    let mut expected = file.to_vec();
+    let mut turned = 0;
+    for (place, _, found) in field::places(&fields) {
+        let is_4 = matches!(found, Field::Inner(INLINE_OR_INDENTED_BLOCK, _));
+        if is_4 && after[place] == INDENTED_BLOCK {
+            expected[place] = INDENTED_BLOCK;
+            turned += 1;
+        }
+    }
+    ensure(expected == after, || "more than tags 4 changed".into())?;
+    ensure(turned == count, || {
+        format!("{turned} turned, {count} counted")
+    })
+}
+
+fn second_layout(file: &[u8], width: u16) -> Held {
+    let (_, after) = laid_out(file, width)?;
+    layout_changes_4_to_3(&after, width)
+}
+
+fn page(operation: Operation, file: &[u8]) -> Result<Vec<u8>, String> {
+    rendered(operation, file).map_err(|refusal| format!("{refusal:?}"))
+}
+
+fn body_is_plain(file: &[u8], width: u16) -> Held {
+    let (_, after) = laid_out(file, width)?;
+    for file in [file, &after] {
+        let plain = page(Operation::Plain, file)?;
+        let body = page(Operation::Body, file)?;
+        ensure(without_tags(&body) == plain, || "another text".into())?;
+    }
+    Ok(())
+}
+
+/// The text of a body as a browser would have it: the newline after `<pre>` does not count.
+fn without_tags(body: &[u8]) -> Vec<u8> {
+    let mut text = Vec::new();
+    let (mut in_tag, mut in_quotes) = (false, false);
+    for &byte in body {
+        match byte {
+            b'"' if in_tag => in_quotes = !in_quotes,
+            b'>' if in_tag && !in_quotes => in_tag = false,
+            b'<' if !in_tag => in_tag = true,
+            _ if in_tag => {}
+            _ => text.push(byte),
+        }
+    }
+    let text = replaced(&text[1..], b"&lt;", b"<");
+    replaced(&text, b"&amp;", b"&")
+}
+
+fn replaced(text: &[u8], from: &[u8], to: &[u8]) -> Vec<u8> {
+    let mut out = Vec::new();
+    let mut rest = text;
+    while let Some((&first, more)) = rest.split_first() {
+        if let Some(after) = rest.strip_prefix(from) {
+            out.extend(to);
+            rest = after;
+        } else {
+            out.push(first);
+            rest = more;
+        }
+    }
+    out
+}
+
+fn document_holds_body(file: &[u8], _: u16) -> Held {
+    let body = page(Operation::Body, file)?;
+    let document = page(Operation::Document, file)?;
+    let before = b"</head>\n<body>";
+    let after = b"</body>\n</html>\n";
+    let framed = [&before[..], &body, after].concat();
+    ensure(document.ends_with(&framed), || "another body".into())
+}
+
+fn rooms(file: &[u8], width: u16) -> Held {
+    let page = rendered(Operation::Plain, file);
+    let length = page.as_ref().map_or(0, Vec::len);
+    let longer = length + usize::from(width % 64);
+    for room in [0, length.saturating_sub(1), length, longer] {
+        let said = page_outcome(&page, room);
+        let right = match room < length {
+            true => Answer::Refused {
+                number: 10,
+                place: length,
+            },
+            false => Answer::Accepted(length),
+        };
+        let fits = said.answer == right && said.lent.len() == room;
+        ensure(fits, || format!("{:?} in {room}", said.answer))?;
+    }
+    Ok(())
+}
+
+/// Every byte of every 17 and 7 but newline becomes `x`.
+fn masked(fields: &[Field]) -> Vec<Field> {
+    let mask = |byte: &u8| if *byte == b'\n' { b'\n' } else { b'x' };
+    let field = |field: &Field| match field {
+        Field::Leaf(tag @ (TEXT_BYTES | IF_BLOCK_LAYOUT), value) => {
+            Field::Leaf(*tag, value.iter().map(mask).collect())
+        }
+        Field::Inner(tag, inside) => Field::Inner(*tag, masked(inside)),
+        other => other.clone(),
+    };
+    fields.iter().map(field).collect()
+}
+
+fn newlines(page: &[u8]) -> Vec<usize> {
+    let places = page.iter().enumerate();
+    places
+        .filter(|(_, b)| **b == b'\n')
+        .map(|(at, _)| at)
+        .collect()
+}
+
+fn mask(file: &[u8], width: u16) -> Held {
+    let fields = field::parse(file);
+    let mask = field::encode(&masked(&fields));
+    check(&mask).map_err(|refusal| format!("the mask has {refusal:?}"))?;
+    let ((count, after), (mask_count, mask_after)) =
+        (laid_out(file, width)?, laid_out(&mask, width)?);
+    ensure(count == mask_count, || "another count".into())?;
+    ensure(
+        mask_after == field::encode(&masked(&field::parse(&after))),
+        || "other tags changed".into(),
+    )?;
+    let plain = page(Operation::Plain, &after)?;
+    let mask_plain = page(Operation::Plain, &mask_after)?;
+    ensure(plain.len() == mask_plain.len(), || {
+        "another page length".into()
+    })?;
+    ensure(newlines(&plain) == newlines(&mask_plain), || {
+        "other lines".into()
+    })?;
+    if plain.contains(&b'&') || plain.contains(&b'<') {
+        return Ok(());
+    }
+    let (body, mask_body) = (
+        page(Operation::Body, &after)?,
+        page(Operation::Body, &mask_after)?,
+    );
+    ensure(body.len() == mask_body.len(), || {
+        "another body length".into()
+    })
+}
+
+fn same_refusal(file: &[u8], width: u16) -> Held {
+    let Err(refusal) = check(file) else {
+        return Ok(());
+    };
+    let right = Answer::from(refusal);
+    let width = width.min(LARGEST_WIDTH);
+    let laid = answer(&Request::layout(width, file.to_vec()));
+    ensure(laid.answer == right && laid.lent == file, || {
+        "layout differs".into()
+    })?;
+    for operation in [Operation::Plain, Operation::Body, Operation::Document] {
+        let said = answer(&Request::page(operation, 9, file.to_vec()));
+        let left = said.lent.iter().all(|byte| *byte == LENT);
+        ensure(said.answer == right && left, || {
+            format!("{operation:?} differs")
+        })?;
+    }
+    Ok(())
+}
+
+fn place_within(file: &[u8], _: u16) -> Held {
+    match check(file) {
+        Err(refusal) => ensure(refusal.place < file.len(), || format!("{refusal:?}")),
+        Ok(()) => Ok(()),
+    }
+}
+
+fn loose_tree(file: &[u8], _: u16) -> Held {
+    ensure(field::encode(&field::parse(file)) == file, || {
+        "other bytes".into()
+    })
+}

@@ -1,0 +1,148 @@
+//! The recorded answers: a fixed choice of small cases for each part.
+
+use crate::answers::{answer, rendered, Operation, Request};
+use crate::check::check;
+use crate::damage;
+use crate::examples;
+use crate::field;
+use crate::generate;
+use crate::random::Random;
+use crate::tags::LONGEST_FILE;
+use crate::wire;
+use std::collections::HashSet;
+use std::fs;
+use std::path::Path;
+
+/// Changing it changes every recorded case.
+const SEED: u64 = 20_240_607;
+
+/// The parts and the operations that each holds.
+const PARTS: [(&str, &[Operation]); 4] = [
+    ("check", &[Operation::Check]),
+    ("layout", &[Operation::Layout]),
+    ("plain", &[Operation::Plain]),
+    ("html", &[Operation::Body, Operation::Document]),
+];
+
+/// Writes the pairs of files; a line on each.
+pub fn write(folder: &Path) -> Result<Vec<String>, String> {
+    fs::create_dir_all(folder).map_err(|e| format!("{}: {e}", folder.display()))?;
+    let all = cases();
+    let mut lines = Vec::new();
+    for (part, operations) in PARTS {
+        let chosen = all.iter().filter(|r| operations.contains(&r.operation));
+        let chosen: Vec<Request> = chosen.cloned().collect();
+        let answers = chosen
+            .iter()
+            .map(|request| wire::answer_line(&answer(request)) + "\n");
+        let answers: String = answers.collect();
+        put(
+            &folder.join(format!("{part}.requests")),
+            &wire::put_requests(&chosen),
+        )?;
+        put(&folder.join(format!("{part}.answers")), answers.as_bytes())?;
+        lines.push(format!("{part}: {} cases", chosen.len()));
+    }
+    Ok(lines)
+}
+
+fn put(file: &Path, bytes: &[u8]) -> Result<(), String> {
+    fs::write(file, bytes).map_err(|e| format!("{}: {e}", file.display()))
+}
+
+/// Every example first, then small accepted and damaged files.
+fn cases() -> Vec<Request> {
+    let mut cases: Vec<Request> = examples::all().into_iter().map(|e| e.request).collect();
+    cases.extend(accepted_files().into_iter().flat_map(requests_for_accepted));
+    cases.extend(refused_files().into_iter().flat_map(requests_for_refused));
+    // Over-long files only where their answers are short.
+    cases.retain(|case| case.operation == Operation::Check || case.file.len() <= LONGEST_FILE);
+    let mut seen = HashSet::new();
+    cases.retain(|request| seen.insert(wire::put_requests(std::slice::from_ref(request))));
+    cases
+}
+
+/// Files of up to 120 bytes, and a handful of up to 700, numbered.
+fn accepted_files() -> Vec<(usize, Vec<u8>)> {
+    let mut files = Vec::new();
+    let mut index = 0;
+    while files.len() < 120 {
+        let mut random = Random::new(SEED, index);
+        index += 1;
+        let file = field::encode(&generate::fields(&mut random));
+        let longest = if files.len() % 20 == 19 { 700 } else { 120 };
+        if (longest / 12..longest).contains(&file.len()) {
+            files.push((files.len(), file));
+        }
+    }
+    files
+}
+
+/// Twelve files for each refusal number from 3 to 9, all but a few small.
+fn refused_files() -> Vec<(usize, Vec<u8>)> {
+    let mut files = Vec::new();
+    let mut left = [12; 10];
+    left[..3].fill(0);
+    let mut index = 0;
+    while left.iter().any(|n| *n > 0) {
+        let mut random = Random::new(SEED + 1, index);
+        index += 1;
+        let file = damage::small_file(&mut random);
+        if let (Err(refusal), true) = (check(&file), file.len() < 300) {
+            let number = usize::from(refusal.number);
+            let small = file.len() < 100 || number == 6;
+            if left[number] > 0 && small {
+                left[number] -= 1;
+                files.push((files.len(), file));
+            }
+        }
+    }
+    files
+}
+
+/// The file in every part, few documents among them.
+fn requests_for_accepted((number, file): (usize, Vec<u8>)) -> Vec<Request> {
+    let mut random = Random::new(SEED + 2, number as u64);
+    let width = generate::width(&mut random, file.len());
+    let laid_out = answer(&Request::layout(width, file.clone())).lent;
+    let mut requests = vec![
+        Request::layout(width, file.clone()),
+        Request::layout(width / 2, laid_out.clone()),
+    ];
+    if number % 3 == 0 {
+        requests.push(Request::check(file.clone()));
+    }
+    requests.push(page(&mut random, Operation::Plain, laid_out.clone()));
+    if number % 2 == 0 {
+        requests.push(page(&mut random, Operation::Plain, file));
+    }
+    requests.push(page(&mut random, Operation::Body, laid_out.clone()));
+    if number % 30 == 7 {
+        requests.push(page(&mut random, Operation::Document, laid_out));
+    }
+    requests
+}
+
+/// A page request whose room is mostly exact.
+fn page(random: &mut Random, operation: Operation, file: Vec<u8>) -> Request {
+    let length = rendered(operation, &file).map_or(0, |page| page.len());
+    let room = match random.below(8) {
+        0 => 0,
+        1 => length.saturating_sub(1),
+        2 => length + random.between(1, 5),
+        _ => length,
+    };
+    Request::page(operation, room, file)
+}
+
+/// The check of each, and one other operation: layout at a good or bad width, or a page.
+fn requests_for_refused((number, file): (usize, Vec<u8>)) -> Vec<Request> {
+    let other = match number % 5 {
+        0 => Request::layout(80, file.clone()),
+        1 => Request::layout(6_554, file.clone()),
+        2 => Request::page(Operation::Plain, 2, file.clone()),
+        3 => Request::page(Operation::Body, 2, file.clone()),
+        _ => Request::page(Operation::Document, 0, file.clone()),
+    };
+    vec![Request::check(file), other]
+}

@@ -1,0 +1,125 @@
+//! Tests the judge itself: its properties, known faults, and wrong subjects that have to be found.
+
+use crate::answers::Request;
+use crate::check::{check, Refusal};
+use crate::compare::{self, Stop};
+use crate::damage::{self, noise};
+use crate::field;
+use crate::generate;
+use crate::hex::hex;
+use crate::known;
+use crate::properties::{Held, Property, OF_ACCEPTED, OF_ANY};
+use crate::random::Random;
+use crate::shrink::shrink;
+use crate::wrong;
+use std::panic::{catch_unwind, AssertUnwindSafe};
+
+/// How often each refusal was seen; 0 counts accepted files.
+#[derive(Default)]
+struct Seen([u64; 10]);
+
+impl Seen {
+    fn note(&mut self, checked: Result<(), Refusal>) {
+        let number = checked.map_or_else(|refusal| refusal.number, |()| 0);
+        self.0[usize::from(number)] += 1;
+    }
+
+    fn words(&self) -> String {
+        let numbers = [1, 3, 4, 5, 6, 7, 8, 9].map(|n| format!("{n}: {}", self.0[n]));
+        format!("accepted {}, refused by {}", self.0[0], numbers.join(", "))
+    }
+}
+
+/// Runs everything; what it found, or the first thing that does not hold.
+pub fn run(seed: u64, files: u64) -> Result<Vec<String>, String> {
+    let mut seen = Seen::default();
+    for index in 0..files {
+        let mut random = Random::new(seed, index);
+        one(&mut random, &mut seen).map_err(|why| format!("file {index}: {why}"))?;
+    }
+    for file in noise::all_short() {
+        hold_all(&OF_ANY, &file, 0)?;
+    }
+    let missing = [1, 3, 4, 5, 6, 7, 8, 9].iter().find(|n| seen.0[**n] == 0);
+    if let (Some(number), true) = (missing, files >= 10_000) {
+        return Err(format!("no file was refused by {number}"));
+    }
+    let mut found = vec![
+        format!("{files} files, their properties hold"),
+        seen.words(),
+    ];
+    found.extend(wrong_subjects(seed)?);
+    Ok(found)
+}
+
+/// An accepted file, the same with a known fault, and a damaged file.
+fn one(random: &mut Random, seen: &mut Seen) -> Held {
+    let fields = generate::fields(random);
+    let file = field::encode(&fields);
+    let width = generate::width(random, file.len());
+    hold_all(&OF_ACCEPTED, &file, width)?;
+    hold_all(&OF_ANY, &file, width)?;
+    seen.note(check(&file));
+    if let Some(known) = known::fault(random, &fields) {
+        let said = check(&known.file);
+        if said != known.right {
+            let (file, right) = (hex(&known.file), known.right);
+            return Err(format!("{said:?} in place of {right:?} for {file}"));
+        }
+        seen.note(said);
+        hold_all(&OF_ANY, &known.file, width)?;
+    }
+    let damaged = damage::file(random);
+    seen.note(check(&damaged));
+    hold_all(&OF_ANY, &damaged, width)
+}
+
+/// All properties of a file; for one that fails the smallest file that fails it too.
+fn hold_all(properties: &[Property], file: &[u8], width: u16) -> Held {
+    for (name, property) in properties {
+        let fails = |file: &[u8], width| hold(*property, file, width).is_err();
+        if !fails(file, width) {
+            continue;
+        }
+        let needs_accepted = check(file).is_ok();
+        let request = shrink(Request::layout(width, file.to_vec()), &mut |tried| {
+            tried.iter().position(|request| {
+                let kind = check(&request.file).is_ok() == needs_accepted;
+                kind && fails(&request.file, request.width)
+            })
+        });
+        let why = hold(*property, &request.file, request.width);
+        let (file, width) = (hex(&request.file), request.width);
+        return Err(format!(
+            "\"{name}\" fails at width {width}: {why:?} for {file}"
+        ));
+    }
+    Ok(())
+}
+
+/// A panic of the original or of the judge is a failure too.
+fn hold(property: fn(&[u8], u16) -> Held, file: &[u8], width: u16) -> Held {
+    catch_unwind(AssertUnwindSafe(|| property(file, width)))
+        .unwrap_or_else(|_| Err("it panicked".into()))
+}
+
+/// Every wrong subject has to be found, with a file as small as said.
+fn wrong_subjects(seed: u64) -> Result<Vec<String>, String> {
+    let mut found = Vec::new();
+    for mut wrong in wrong::all() {
+        let (name, parts, longest) = (wrong.name, wrong.part, wrong.longest);
+        match compare::run(&mut wrong, &parts, seed, 20_000) {
+            Ok(_) => return Err(format!("not found: {name}")),
+            Err(Stop::CannotAsk(why)) => return Err(format!("{name}: {why}")),
+            Err(Stop::Differs(difference)) => {
+                let length = difference.request.file.len();
+                let words = difference.words();
+                if length > longest {
+                    return Err(format!("{name}: {length} bytes, over {longest}\n{words}"));
+                }
+                found.push(format!("found in {length} bytes: {name}"));
+            }
+        }
+    }
+    Ok(found)
+}

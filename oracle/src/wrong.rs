@@ -1,0 +1,174 @@
+//! Subjects that are wrong on purpose: the comparison has to find each fault and make it small.
+
+use crate::answers::{answer, Answer, Operation, Outcome, Request, LENT};
+use crate::field::{self, Field};
+use crate::subject::{Said, Subject};
+use crate::tags::*;
+
+/// A wrong subject, and the longest file that its fault may shrink to.
+pub struct Wrong {
+    pub name: &'static str,
+    pub part: [Operation; 1],
+    pub longest: usize,
+    says: Says,
+}
+
+impl Subject for Wrong {
+    fn parts(&self) -> &[Operation] {
+        &self.part
+    }
+
+    fn answer(&mut self, requests: &[Request]) -> Result<Vec<Said>, String> {
+        Ok(requests
+            .iter()
+            .map(|request| Ok((self.says)(request)))
+            .collect())
+    }
+}
+
+type Says = fn(&Request) -> Outcome;
+
+/// What is wrong, in which operation, the longest file for it, and the saying itself.
+#[rustfmt::skip] // one row, one line
+const ALL: [(&str, Operation, usize, Says); 9] = [
+    ("a bad style is placed a byte too far", Operation::Check, 13, style_misplaced),
+    ("a missing 17 is refused at the end", Operation::Check, 6, missing_misplaced),
+    ("the excess of tag 7 is forgotten", Operation::Layout, 10, excess_forgotten),
+    ("the count of changed tags stops at 1", Operation::Layout, 26, count_stops),
+    ("a refused layout changes a byte", Operation::Layout, 4, refusal_writes),
+    ("a waiting break is kept at the end", Operation::Plain, 18, break_kept),
+    ("later bytes of the page are cleared", Operation::Plain, 0, tail_cleared),
+    ("an em size is rounded", Operation::Body, 16, em_rounded),
+    ("a page that fits just so is refused", Operation::Document, 0, fit_refused),
+];
+
+pub fn all() -> Vec<Wrong> {
+    let wrong = ALL.map(|(name, part, longest, says)| Wrong {
+        name,
+        part: [part],
+        longest,
+        says,
+    });
+    wrong.into()
+}
+
+fn style_misplaced(request: &Request) -> Outcome {
+    let mut said = answer(request);
+    if let Answer::Refused { number: 8, place } = &mut said.answer {
+        *place += 1;
+    }
+    said
+}
+
+fn missing_misplaced(request: &Request) -> Outcome {
+    let mut said = answer(request);
+    if let Answer::Refused { number: 5, place } = &mut said.answer {
+        if request.file[*place] == TEXT {
+            *place += HEADER;
+        }
+    }
+    said
+}
+
+/// Lays out with each conditional text replaced by a plain one, which has no excess.
+fn excess_forgotten(request: &Request) -> Outcome {
+    let mut right = answer(request);
+    let Answer::Accepted(count) = &mut right.answer else {
+        return right;
+    };
+    let plain = Request {
+        file: field::encode(&without_tag_7(&field::parse(&request.file))),
+        ..request.clone()
+    };
+    let said = answer(&plain);
+    let Answer::Accepted(changed) = said.answer else {
+        return right;
+    };
+    *count = changed;
+    let blocks = block_places(&right.lent).into_iter();
+    for (place, from) in blocks.zip(block_places(&said.lent)) {
+        right.lent[place] = said.lent[from];
+    }
+    right
+}
+
+fn without_tag_7(fields: &[Field]) -> Vec<Field> {
+    let plain = |field: &Field| match field {
+        Field::Leaf(IF_BLOCK_LAYOUT, value) if !value.contains(&b'\n') => field::text(value),
+        Field::Inner(tag, inside) => Field::Inner(*tag, without_tag_7(inside)),
+        other => other.clone(),
+    };
+    fields.iter().map(plain).collect()
+}
+
+fn block_places(file: &[u8]) -> Vec<usize> {
+    let fields = field::parse(file);
+    let places = field::places(&fields).into_iter();
+    let block = |field: &Field| matches!(field, Field::Inner(tag, _) if field::is_block(*tag));
+    places
+        .filter(|(_, _, f)| block(f))
+        .map(|(place, ..)| place)
+        .collect()
+}
+
+fn count_stops(request: &Request) -> Outcome {
+    let mut said = answer(request);
+    if let Answer::Accepted(count) = &mut said.answer {
+        *count = (*count).min(1);
+    }
+    said
+}
+
+fn refusal_writes(request: &Request) -> Outcome {
+    let mut said = answer(request);
+    if let (Answer::Refused { .. }, Some(byte)) = (said.answer, said.lent.first_mut()) {
+        if *byte == INLINE_OR_INDENTED_BLOCK {
+            *byte = INDENTED_BLOCK;
+        }
+    }
+    said
+}
+
+/// An empty styled text at the end releases what waits.
+fn break_kept(request: &Request) -> Outcome {
+    let mut longer = request.clone();
+    longer
+        .file
+        .extend(field::encode(&[field::styled(Vec::new(), b"")]));
+    let right = answer(request);
+    match right.answer {
+        Answer::Accepted(_) if longer.file.len() <= LONGEST_FILE => answer(&longer),
+        _ => right,
+    }
+}
+
+fn tail_cleared(request: &Request) -> Outcome {
+    let mut said = answer(request);
+    if let Answer::Accepted(length) = said.answer {
+        said.lent[length..].fill(0);
+    }
+    said
+}
+
+fn em_rounded(request: &Request) -> Outcome {
+    let mut said = answer(request);
+    let wrong = b"0000002em";
+    for at in 0..said.lent.len().saturating_sub(wrong.len()) {
+        if said.lent[at..].starts_with(wrong) {
+            said.lent[at..at + 7].copy_from_slice(b"0000000");
+        }
+    }
+    said
+}
+
+fn fit_refused(request: &Request) -> Outcome {
+    let mut said = answer(request);
+    if said.answer == Answer::Accepted(request.room) {
+        said.answer = Answer::Refused {
+            number: 10,
+            place: request.room,
+        };
+        said.lent.fill(LENT);
+    }
+    said
+}
