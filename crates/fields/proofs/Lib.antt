@@ -1,0 +1,2 @@
+-- Laws of the field at a place.
+pub mod Laws

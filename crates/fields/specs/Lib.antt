@@ -1,0 +1,2 @@
+-- What stands at a place of some bytes.
+pub mod FieldAt
