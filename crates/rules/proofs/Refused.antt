@@ -98,7 +98,7 @@ module _ {X : Type 0} (byte : X → ℕ) where
       → (p + 3 + length (take n (drop 2 s)) ≤ p + suc (length s)) × (p + (3 + length (take n (drop 2 s))) + length (drop n (drop 2 s)) ≤ p + suc (length s))
   fits n p s l₁ l₂ = omega (arith, length-take n (drop 2 s), length-drop 2 s, length-drop n (drop 2 s))
 
-  front-fits : (h : Holder) (d before p : ℕ) (x : X) (s : List X) (f : Field X) → front byte h d before p x s ≡ accepted f
+  pub front-fits : (h : Holder) (d before p : ℕ) (x : X) (s : List X) (f : Field X) → front byte h d before p x s ≡ accepted f
       → (p + 3 + length (f .value) ≤ p + length (x ∷ s)) × (p + (3 + length (f .value)) + length (f .rest) ≤ p + length (x ∷ s))
   unfolding front
   front-fits h d before p x s f e =

@@ -1,0 +1,4 @@
+-- The laws of the code's steps.
+pub mod Table
+pub mod Steps
+pub mod Turns

@@ -1,0 +1,54 @@
+-- `utf8::has_quote` meets its contract. The loop's invariant: the bytes from i on have a quote exactly if the whole has.
+use mathlib.Core.Path.{_≡_, refl}
+use Prim.Native.Nat.{_≤_, _-_}
+use lib.ListN.{length, drop}
+use borrow.Author.Needs.{needs}
+use Rattle.rules.specs.Bytes.{has}
+use Rattle.utf8.proofs.Turns.{found, passed, not-there}
+use Rattle.utf8.proofs.has_quote.Statement.{statement}
+use Rattle.utf8.proofs.has_quote.Tie as tie
+
+abbrev Inv-loop : tie.InvT-loop
+Inv-loop s i₀ i = (i ≤ length s) × (has 34 (drop i s) ≡ has 34 s)
+
+abbrev μ-loop : tie.MeasureT-loop
+μ-loop s i₀ i = length s - i
+
+loop-holds : tie.Need-loop-holds Inv-loop μ-loop
+loop-holds c = (search needs, refl)
+
+shared-slice-read-if1 : tie.Need-shared-slice-read-if1 Inv-loop μ-loop
+shared-slice-read-if1 c = search needs
+
+returns : tie.Need-returns Inv-loop μ-loop
+returns c =
+    let turn = c .before .before in
+    found _ _ _ (turn .before .loop .inv .1) (turn .loop-test .taken) (c .if1 .taken)
+
+add-i : tie.Need-add-i Inv-loop μ-loop
+add-i c = search needs
+
+loop-less : tie.Need-loop-less Inv-loop μ-loop
+loop-less c = search needs
+
+loop-again : tie.Need-loop-again Inv-loop μ-loop
+loop-again c =
+    let turn = c .before .before in
+    (search needs, passed _ _ _ (turn .before .loop .inv .1) (turn .loop-test .taken) (c .if1 .left))
+
+returns-2 : tie.Need-returns-2 Inv-loop μ-loop
+returns-2 c = not-there _ _ _ (c .before .loop .inv .1) (c .loop-test .left)
+
+pub has-quote-spec : {M : Type 1} → statement M
+has-quote-spec =
+    tie.close
+    (tie.spec
+    Inv-loop
+    μ-loop
+    loop-holds
+    shared-slice-read-if1
+    returns
+    add-i
+    loop-less
+    loop-again
+    returns-2)

@@ -1,0 +1,2 @@
+-- What a turn of the writing loops does.
+pub mod Turns

@@ -1,0 +1,3 @@
+-- What writing a text to a lent page leaves, and its laws.
+pub mod Written
+pub mod Laws
