@@ -1,0 +1,7 @@
+-- Laws that the proofs of the code cite.
+pub mod EveryByte
+pub mod Lengths
+pub mod Opacity
+pub mod Parts
+pub mod Reading
+pub mod Sizes

@@ -1,0 +1,13 @@
+-- `styles::none` meets its contract.
+use mathlib.Core.Path.{refl}
+use Rattle.styles.specs.Said.{said-styles, flagged}
+use Rattle.styles.specs.StylesIn.{no-styles}
+use Rattle.styles.proofs.none.Statement.{statement}
+use Rattle.styles.proofs.none.Tie as tie
+
+returns : tie.Need-returns
+unfolding said-styles flagged no-styles
+returns c = refl
+
+pub none-spec : {M : Type 1} → statement M
+none-spec = tie.close (tie.spec returns)

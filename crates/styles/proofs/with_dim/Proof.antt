@@ -1,0 +1,19 @@
+-- `styles::with_dim` meets its contract: a value of another length than 0 is passed over.
+use borrow.Author.Tests.{eq-eqb, ne-eqb}
+use Rattle.styles.specs.Said.{said-styles}
+use Rattle.styles.specs.StylesIn.{right-value, put-part}
+use Rattle.rules.specs.Walk.{right-length}
+use Rattle.styles.proofs.Parts.{passed-over, put-in}
+use Rattle.styles.proofs.with_dim.Statement.{statement}
+use Rattle.styles.proofs.with_dim.Tie as tie
+
+returns : tie.Need-returns
+unfolding right-value right-length
+returns c = passed-over _ 38 _ (ne-eqb _ 0 (c .if1 .taken))
+
+returns-2 : tie.Need-returns-2
+unfolding said-styles put-part right-value right-length
+returns-2 c = put-in _ 38 _ (eq-eqb _ 0 (c .if1 .left))
+
+pub with-dim-spec : {M : Type 1} → statement M
+with-dim-spec = tie.close (tie.spec returns returns-2)

@@ -1,0 +1,144 @@
+-- The content of a value of bytes, by its tag and by what the tests say.
+use mathlib.Core.Path.{_≡_, refl, sym, _∙_, ap}
+use mathlib.Core.List.{List, [], _∷_}
+use mathlib.Core.Bool.{Bool, true, false, _&&_, _||_}
+use Prim.Native.Nat.{ℕ, zero, suc, _+_, _*_, _≤_, _<_}
+use native.Mathlib.Omega.{arith}
+use lib.Dec.{leb, eqb}
+use lib.ListN.{length, getD}
+use borrow.Author.Tests.{le-leb, lt-leb, ne-eqb, eq-eqb, eqb-true}
+use Rattle.rules.specs.Bytes.{if_then_else_, has, number, number-from}
+use Rattle.rules.specs.Utf8.{utf8}
+use Rattle.rules.specs.Result.{Result, refused, accepted, sound}
+use Rattle.rules.specs.Walk.{content, right-length, right-opacity, right-size}
+use Rattle.rules.proofs.Chains.{no-path}
+use Rattle.utf8.specs.Answer.{sound-if, utf8-answer}
+use Rattle.utf8.specs.declared.Utf8.{Utf8}
+use Rattle.utf8.specs.declared.Utf8.the-variants.{Sound, Broken}
+use Rattle.verify.specs.Contents.{text-fault, anchor-fault}
+
+-- ---- texts and anchors
+
+if-sound : (b : Bool) → sound-if b ≡ Sound → b ≡ true
+if-sound true e = refl
+if-sound false e = no-path (cc)
+
+if-broken : (b : Bool) → sound-if b ≡ Broken → b ≡ false
+if-broken true e = no-path (cc)
+if-broken false e = refl
+
+module _ (v : List ℕ) (p : ℕ) {u : Utf8} (e : u ≡ utf8-answer v) where
+  is-sound : u ≡ Sound → utf8 v ≡ true
+  unfolding utf8-answer
+  is-sound w = if-sound (utf8 v) (sym e ∙ w)
+
+  is-broken : u ≡ Broken → utf8 v ≡ false
+  unfolding utf8-answer
+  is-broken w = if-broken (utf8 v) (sym e ∙ w)
+
+  pub broken-text : u ≡ Broken → refused 7 p ≡ sound (text-fault v) p
+  unfolding sound text-fault
+  broken-text w = simp (is-broken w)
+
+  pub sound-text : u ≡ Sound → accepted tt ≡ sound (text-fault v) p
+  unfolding sound text-fault
+  sound-text w = simp (is-sound w)
+
+  pub broken-anchor : u ≡ Broken → refused 7 p ≡ sound (anchor-fault v) p
+  unfolding sound anchor-fault
+  broken-anchor w = simp (is-broken w)
+
+  pub quoted-anchor : u ≡ Sound → has 34 v ≡ true → refused 9 p ≡ sound (anchor-fault v) p
+  unfolding sound anchor-fault
+  quoted-anchor w q = simp (is-sound w, q)
+
+  pub sound-anchor : u ≡ Sound → has 34 v ≡ false → accepted tt ≡ sound (anchor-fault v) p
+  unfolding sound anchor-fault
+  sound-anchor w q = simp (is-sound w, q)
+
+-- ---- numbers
+
+pub number-of-four : (v : List ℕ) → length v ≡ 4 → ((getD v 0 0 * 256 + getD v 1 0) * 256 + getD v 2 0) * 256 + getD v 3 0 ≡ number v
+unfolding number number-from
+number-of-four [] e = absurd (omega arith)
+number-of-four (a ∷ []) e = absurd (omega arith)
+number-of-four (a ∷ b ∷ []) e = absurd (omega arith)
+number-of-four (a ∷ b ∷ c ∷ []) e = absurd (omega arith)
+number-of-four (a ∷ b ∷ c ∷ d ∷ []) e = omega arith
+number-of-four (a ∷ b ∷ c ∷ d ∷ x ∷ v) e = absurd (omega arith)
+
+number-of-one : (v : List ℕ) → length v ≡ 1 → getD v 0 0 ≡ number v
+unfolding number number-from
+number-of-one [] e = absurd (omega arith)
+number-of-one (a ∷ []) e = omega arith
+number-of-one (a ∷ x ∷ v) e = absurd (omega arith)
+
+module _ (b : ℕ) where
+  pub opacity-zero : b ≡ 0 → true ≡ right-opacity b
+  unfolding right-opacity
+  opacity-zero e = simp (eq-eqb b 0 e)
+
+  pub opacity-low : (b ≡ 0 → ⊥) → b < 0x3a80_0000 → false ≡ right-opacity b
+  unfolding right-opacity
+  opacity-low z h = simp (ne-eqb b 0 z, lt-leb 0x3a80_0000 b h)
+
+  pub opacity-high : (b ≡ 0 → ⊥) → 0x3a80_0000 ≤ b → leb b 0x3f80_0000 ≡ right-opacity b
+  unfolding right-opacity
+  opacity-high z h = simp (ne-eqb b 0 z, le-leb 0x3a80_0000 b h)
+
+  pub size-low : b ≤ 117 → true ≡ right-size b
+  unfolding right-size
+  size-low h = simp (le-leb b 117 h)
+
+  pub size-high : 117 < b → leb 128 b ≡ right-size b
+  unfolding right-size
+  size-high h = simp (lt-leb b 117 h)
+
+-- ---- by the tag
+
+module _ (t : ℕ) (v : List ℕ) where
+  pub as-text-17 : t ≡ 17 → text-fault v ≡ content t v
+  unfolding content text-fault
+  as-text-17 e = simp (eq-eqb t 17 e)
+
+  pub as-text-7 : t ≡ 7 → text-fault v ≡ content t v
+  unfolding content text-fault
+  as-text-7 e = simp (ne-eqb t 17 (λ (z : t ≡ 17). omega arith), eq-eqb t 7 e)
+
+  pub as-anchor-18 : t ≡ 18 → anchor-fault v ≡ content t v
+  unfolding content anchor-fault
+  as-anchor-18 e = simp (ne-eqb t 17 (λ (z : t ≡ 17). omega arith), ne-eqb t 7 (λ (z : t ≡ 7). omega arith), eq-eqb t 18 e)
+
+  pub as-anchor-19 : t ≡ 19 → anchor-fault v ≡ content t v
+  unfolding content anchor-fault
+  as-anchor-19 e =
+      simp (ne-eqb t 17 (λ (z : t ≡ 17). omega arith), ne-eqb t 7 (λ (z : t ≡ 7). omega arith), ne-eqb t 18 (λ (z : t ≡ 18). omega arith), eq-eqb t 19 e)
+
+  pub opacity-length : t ≡ 33 → right-length t (length v) ≡ true → length v ≡ 4
+  unfolding right-length
+  opacity-length e h = eqb-true (length v) 4 (rw e at h)
+
+  pub size-length : t ≡ 35 → right-length t (length v) ≡ true → length v ≡ 1
+  unfolding right-length
+  size-length e h = eqb-true (length v) 1 (rw e at h)
+
+  module _ (p : ℕ) where
+    pub opacity-sound : t ≡ 33 → right-opacity (number v) ≡ true → accepted tt ≡ sound (content t v) p
+    unfolding content sound
+    opacity-sound e h = rw e (simp h)
+
+    pub opacity-faulty : t ≡ 33 → right-opacity (number v) ≡ false → refused 8 p ≡ sound (content t v) p
+    unfolding content sound
+    opacity-faulty e h = rw e (simp h)
+
+    pub size-sound : t ≡ 35 → length v ≡ 1 → right-size (getD v 0 0) ≡ true → accepted tt ≡ sound (content t v) p
+    unfolding content sound
+    size-sound e l h = rw e (simp (← (number-of-one v l), h))
+
+    pub size-faulty : t ≡ 35 → length v ≡ 1 → right-size (getD v 0 0) ≡ false → refused 8 p ≡ sound (content t v) p
+    unfolding content sound
+    size-faulty e l h = rw e (simp (← (number-of-one v l), h))
+
+    pub no-content : (t ≡ 17 → ⊥) → (t ≡ 7 → ⊥) → (t ≡ 18 → ⊥) → (t ≡ 19 → ⊥) → (t ≡ 33 → ⊥) → (t ≡ 35 → ⊥) → accepted tt ≡ sound (content t v) p
+    unfolding content sound
+    no-content a b c d e f = simp (ne-eqb t 17 a, ne-eqb t 7 b, ne-eqb t 18 c, ne-eqb t 19 d, ne-eqb t 33 e, ne-eqb t 35 f)

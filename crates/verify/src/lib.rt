@@ -1,0 +1,6 @@
+// The file check: the walk over a file's fields from the front, and the first fault with its place.
+pub mod content;
+pub mod front;
+pub mod seen;
+pub mod tables;
+pub mod walk;
