@@ -1,0 +1,2 @@
+-- Where a request's file stands.
+pub mod Requests

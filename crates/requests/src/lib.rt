@@ -1,0 +1,40 @@
+// A batch of recorded requests: where the file of the request at a place stands (tests/recorded/README.md has the format).
+use fields::wide;
+ghost use Prim.Native.Nat.{_+_, _≤_};
+ghost use lib.ListN.{length};
+ghost use Rattle.requests.specs.Requests.{Stands};
+
+// The bytes before a request's file: the operation, the width, the room, the file's length.
+pub const HEADER: usize = 11;
+
+pub enum Request {
+    // its file stands from `from` to `to`
+    File { from: usize, to: usize },
+    // no whole request is left
+    NoMore,
+}
+
+// The three low bytes of the file's length: a batch is shorter than 2^24 bytes.
+fn file_length(s: &[u8], at: usize) -> usize
+    requires { ⌜ at + 11 ≤ length (now s) ⌝ }
+{
+    (wide(s[at + 8]) * 256 + wide(s[at + 9])) * 256 + wide(s[at + 10])
+}
+
+// The request at `at`.
+pub fn request_at(s: &[u8], at: usize) -> Request
+    ensures { λ r. ⌜ Stands (now (s .entry)) at r ⌝ }
+{
+    if s.len() < HEADER {
+        return Request::NoMore;
+    }
+    if s.len() - HEADER < at {
+        return Request::NoMore;
+    }
+    let from = at + HEADER;
+    let n = file_length(s, at);
+    if s.len() - from < n {
+        return Request::NoMore;
+    }
+    Request::File { from, to: from + n }
+}
