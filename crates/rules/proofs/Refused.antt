@@ -3,7 +3,7 @@ use mathlib.Core.Path.{_≡_, refl, sym, _∙_, ap}
 use mathlib.Core.List.{List, [], _∷_, map}
 use mathlib.Core.Option.{Option, none, some}
 use mathlib.Core.Bool.{Bool, true, false, _&&_, _||_, not}
-use Prim.Native.Nat.{ℕ, zero, suc, _+_, _-_, _≤_, _<_, zero-le}
+use Prim.Native.Nat.{ℕ, zero, suc, _+_, _-_, _*_, _^_, _≤_, _<_, zero-le}
 use native.Mathlib.Nat.{le-refl}
 use native.Mathlib.Omega.{arith}
 use lib.Dec.{leb, eqb}
@@ -15,7 +15,7 @@ use Rattle.rules.specs.Result.{Result, refused, accepted, _>>=_, _>>_, n
 use Rattle.rules.specs.Walk.{Fields, end, Holder, in-fragment, in-block, in-text, in-anchor, in-styles, Field, Value, front, valued, walk, check, content, complete, tags, holds, right-opacity, right-size}
 use Rattle.rules.specs.Tree.{Frag, read, frag-of}
 use Rattle.rules.specs.Good.{depth-in}
-use Rattle.rules.specs.Answers.{itself, tree}
+use Rattle.rules.specs.Answers.{itself, tree, check-answer, coded}
 use Rattle.rules.proofs.Chains.{no-path, need-inv}
 
 -- ---- numbers of faults
@@ -145,7 +145,7 @@ module _ {X : Type 0} (byte : X → ℕ) where
 -- what a refused file is: too long, or at fault in the walk
 pub data Refusable (s : List ℕ) (n p : ℕ) : Type 0 where
   too-long : n ≡ 1 → p ≡ 0 → 60_000 < length s → Refusable s n p
-  at-fault : Fault n → p ≤ length s → Refusable s n p
+  at-fault : Fault n → p ≤ length s → length s ≤ 60_000 → Refusable s n p
 
 -- A REFUSED FILE'S PLACE IS AT MOST ITS LENGTH
 pub refused-place : (s : List ℕ) (n p : ℕ) → tree s ≡ refused n p → Refusable s n p
@@ -159,7 +159,7 @@ refused-place s n p e = go (leb (length s) 60_000) (walk itself (length s) in-fr
     go true (refused m r) q S e =
         let x : m ≡ n = cc in
         let y : r ≡ p = cc in
-        at-fault (rw x at (S .fault)) (omega (arith, S .to))
+        at-fault (rw x at (S .fault)) (omega (arith, S .to)) (leb-true (length s) 60_000 (sym q))
 
 -- ONE VERDICT: every file, a cut one too, is accepted or refused, and never both
 pub data Verdict (s : List ℕ) : Type 0 where
@@ -179,3 +179,16 @@ never-both s t n p x y = let z : _≡_ {A = ℕ} 0 1 = cc in no-path z
 -- the bytes of an accepted file up to any place: one verdict, at a place of what is left
 pub cut-verdict : (s : List ℕ) (k : ℕ) → Verdict (take k s)
 cut-verdict s k = verdict (take k s)
+
+-- THE FILE CHECK'S ANSWER FITS 64 BITS
+pub coded-check : (s : List ℕ) → coded (check-answer s) < 2 ^ 64
+unfolding coded check-answer _>>=_
+coded-check s = go (tree s) refl
+  where
+    bounded : (n p : ℕ) → Refusable s n p → p * 256 + n < 2 ^ 64
+    bounded n p (too-long x y l) = omega (arith, x, y)
+    bounded n p (at-fault F l m) = omega (arith, F .1)
+
+    go : (r : Result (Frag ℕ)) → tree s ≡ r → coded (r >>= (λ t. accepted 0)) < 2 ^ 64
+    go (accepted t) e = omega arith
+    go (refused n p) e = bounded n p (refused-place s n p e)

@@ -1,7 +1,7 @@
 -- What each public entry answers, and what it leaves in the slice that it is lent: for every file, width and page buffer.
 use mathlib.Core.List.{List, [], _∷_, _++_}
 use mathlib.Core.Bool.{Bool, true, false}
-use Prim.Native.Nat.{ℕ, suc}
+use Prim.Native.Nat.{ℕ, suc, _+_, _*_}
 use lib.Dec.{leb, eqb}
 use lib.ListN.{length, drop}
 use Rattle.rules.specs.Bytes.{if_then_else_, newline}
@@ -83,3 +83,9 @@ body-outcome s page = left-page (body-text s) page
 
 unfoldable pub document-outcome : (s page : List ℕ) → Result ℕ × List ℕ
 document-outcome s page = left-page (document-text s) page
+
+-- ---- an answer as one number, for callers in C: 256 times its count or place, and the refusal's number, or 0 where it is accepted
+
+unfoldable pub coded : Result ℕ → ℕ
+coded (accepted n) = n * 256
+coded (refused n p) = p * 256 + n

@@ -1,0 +1,2 @@
+-- The laws behind an answer's number and place.
+pub mod Numbers

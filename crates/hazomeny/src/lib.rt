@@ -1,0 +1,22 @@
+// The public entries: each takes every file, width and page buffer, asks nothing of its caller, and answers as document 01 says. The C
+// names take numbers and slices and answer in one number (`coded` of rules).
+use answers::in_one;
+use rules::Answer;
+use verify::walk::check;
+ghost use mathlib.Core.Path.{_≡_};
+ghost use Rattle.rules.specs.Result.{said};
+ghost use Rattle.rules.specs.Answers.{check-answer, coded};
+
+// The file check: accepted with 0, or the first fault's number and place.
+pub fn check_file(file: &[u8]) -> Answer
+    ensures { λ r. ⌜ said r ≡ check-answer (now (file .entry)) ⌝ }
+{
+    check(file)
+}
+
+#[no_mangle]
+pub extern "C" fn hazomeny_check(file: &[u8]) -> u64
+    ensures { λ r. ⌜ r ≡ coded (check-answer (now (file .entry))) ⌝ }
+{
+    in_one(check_file(file))
+}
