@@ -10,13 +10,39 @@ use crate::shrink::shrink;
 use crate::subject::{Said, Subject};
 use crate::wire;
 
-/// So many files go into one batch.
-const BATCH: u64 = 200;
+/// A batch is asked when it holds so many requests, or so many bytes of files
+/// and lent bytes: few enough to hold, and enough that starting a command for
+/// each batch costs little.
+const MOST_REQUESTS: usize = 4_000;
+const MOST_BYTES: usize = 1 << 24;
 
 /// A request with what is right for it.
 struct Case {
     request: Request,
     right: Outcome,
+}
+
+/// Requests that wait to be asked.
+#[derive(Default)]
+struct Batch {
+    cases: Vec<Case>,
+    bytes: usize,
+}
+
+impl Batch {
+    fn ask(&mut self, request: Request) {
+        let right = answers::answer(&request);
+        self.add(request, right);
+    }
+
+    fn add(&mut self, request: Request, right: Outcome) {
+        self.bytes += request.file.len() + right.lent.len();
+        self.cases.push(Case { request, right });
+    }
+
+    fn is_full(&self) -> bool {
+        self.cases.len() >= MOST_REQUESTS || self.bytes >= MOST_BYTES
+    }
 }
 
 /// What a run went through.
@@ -47,35 +73,36 @@ pub fn run(
     seed: u64,
     files: u64,
 ) -> Result<Tally, Stop> {
-    let mut tally = Tally::default();
-    let mut next = 0;
-    while next < files {
-        let end = files.min(next + BATCH);
-        let mut cases = Vec::new();
-        for index in next..end {
-            let mut random = Random::new(seed, index);
-            let file = any_file(&mut random);
-            ask_all(&mut random, &file, parts, &mut cases, &mut tally);
-        }
-        judge(subject, &cases)?;
-        next = end;
-    }
-    Ok(tally)
+    let random = (0..files).map(|index| {
+        let mut random = Random::new(seed, index);
+        let file = any_file(&mut random);
+        (random, file)
+    });
+    run_over(random, subject, parts)
 }
 
 /// Asks for all short files over the two alphabets.
 pub fn run_short(subject: &mut dyn Subject, parts: &[Operation]) -> Result<Tally, Stop> {
+    let short = noise::all_short().enumerate();
+    let short = short.map(|(index, file)| (Random::new(0, index as u64), file));
+    run_over(short, subject, parts)
+}
+
+/// Asks for the files, each with what chooses its widths and rooms.
+fn run_over(
+    files: impl Iterator<Item = (Random, Vec<u8>)>,
+    subject: &mut dyn Subject,
+    parts: &[Operation],
+) -> Result<Tally, Stop> {
     let mut tally = Tally::default();
-    let mut cases = Vec::new();
-    for (index, file) in noise::all_short().enumerate() {
-        let mut random = Random::new(0, index as u64);
-        ask_all(&mut random, &file, parts, &mut cases, &mut tally);
-        if cases.len() > 2_000 {
-            judge(subject, &cases)?;
-            cases.clear();
+    let mut batch = Batch::default();
+    for (mut random, file) in files {
+        ask_all(&mut random, &file, parts, &mut batch, &mut tally);
+        if batch.is_full() {
+            judge(subject, &std::mem::take(&mut batch).cases)?;
         }
     }
-    judge(subject, &cases)?;
+    judge(subject, &batch.cases)?;
     Ok(tally)
 }
 
@@ -92,53 +119,48 @@ fn ask_all(
     random: &mut Random,
     file: &[u8],
     parts: &[Operation],
-    cases: &mut Vec<Case>,
+    batch: &mut Batch,
     tally: &mut Tally,
 ) {
-    let before = cases.len();
+    let before = batch.cases.len();
     let width = generate::width(random, file.len());
     let laid_out = answers::answer(&Request::layout(width, file.to_vec()));
     let accepted = matches!(laid_out.answer, Answer::Accepted(_));
     for part in parts {
         match part {
-            Operation::Check => ask(Request::check(file.to_vec()), cases),
+            Operation::Check => batch.ask(Request::check(file.to_vec())),
             Operation::Layout => {
                 // Once, again at the same width, and at another.
                 let other = generate::width(random, file.len());
                 let again = laid_out.lent.clone();
-                ask(Request::layout(width, file.to_vec()), cases);
-                ask(Request::layout(width, again.clone()), cases);
-                ask(Request::layout(other, again), cases);
+                batch.ask(Request::layout(width, file.to_vec()));
+                batch.ask(Request::layout(width, again.clone()));
+                batch.ask(Request::layout(other, again));
             }
             page => {
                 let laid = accepted && random.one_in(2);
                 let file = if laid { &laid_out.lent } else { file };
-                ask_page(random, *page, file, cases);
+                ask_page(random, *page, file, batch);
             }
         }
     }
     tally.files += 1;
     tally.accepted += u64::from(crate::check::check(file).is_ok());
-    tally.requests += (cases.len() - before) as u64;
-}
-
-fn ask(request: Request, cases: &mut Vec<Case>) {
-    let right = answers::answer(&request);
-    cases.push(Case { request, right });
+    tally.requests += (batch.cases.len() - before) as u64;
 }
 
 /// One page in rooms of no byte, a byte too few, just enough, and more with a guard behind.
-fn ask_page(random: &mut Random, page: Operation, file: &[u8], cases: &mut Vec<Case>) {
+fn ask_page(random: &mut Random, page: Operation, file: &[u8], batch: &mut Batch) {
     let rendered = answers::rendered(page, file);
     let length = rendered.as_ref().map_or(4, Vec::len);
     let more = random.between(1, 40);
     let mut rooms = vec![0, length.saturating_sub(1), length, length + more];
     rooms.dedup();
     for room in rooms {
-        cases.push(Case {
-            request: Request::page(page, room, file.to_vec()),
-            right: answers::page_outcome(&rendered, room),
-        });
+        batch.add(
+            Request::page(page, room, file.to_vec()),
+            answers::page_outcome(&rendered, room),
+        );
     }
 }
 

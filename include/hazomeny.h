@@ -1,0 +1,28 @@
+/* The C names of libhazomeny.a (x86-64 Linux): each takes any bytes, asks nothing of its caller, and ends.
+ *
+ * An answer is one number: its low byte is 0 where the file is accepted, else the number of document 01's refusal; the bytes above
+ * are the count, or the refusal's place. */
+#ifndef HAZOMENY_H
+#define HAZOMENY_H
+
+#include <stddef.h>
+#include <stdint.h>
+
+#ifdef __cplusplus
+extern "C" {
+#endif
+
+/* The number of the refusal, or 0. */
+static inline unsigned hazomeny_refusal(uint64_t answer) { return (unsigned)(answer & 255); }
+
+/* The count of an accepted answer, or the place of a refusal. */
+static inline uint64_t hazomeny_number(uint64_t answer) { return answer >> 8; }
+
+/* The file check: its count is 0. */
+uint64_t hazomeny_check(const uint8_t *file, size_t length);
+
+#ifdef __cplusplus
+}
+#endif
+
+#endif

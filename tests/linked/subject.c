@@ -1,0 +1,56 @@
+/* Answers a request batch with the functions of libhazomeny.a, for `oracle compare`: requests on standard input, responses on
+ * standard output (oracle/src/wire.rs has both formats). Each file is lent from a buffer of just its length. */
+#include "hazomeny.h"
+#include <stdio.h>
+#include <stdlib.h>
+
+enum { HEADER = 11, CHECK = 0 };
+
+static void stop(const char *why) {
+    fprintf(stderr, "subject: %s\n", why);
+    exit(1);
+}
+
+static void *room_for(size_t length) {
+    void *room = malloc(length ? length : 1);
+    if (!room) stop("no memory");
+    return room;
+}
+
+static uint32_t read_number(const uint8_t *bytes) {
+    return (uint32_t)bytes[0] << 24 | (uint32_t)bytes[1] << 16 | (uint32_t)bytes[2] << 8 | bytes[3];
+}
+
+static void write_number(uint64_t number) {
+    if (number > UINT32_MAX) stop("an answer of over 32 bits");
+    for (int shift = 24; shift >= 0; shift -= 8) putchar((int)(number >> shift & 255));
+}
+
+static void respond(uint64_t answer, const uint8_t *lent, size_t length) {
+    putchar((int)hazomeny_refusal(answer));
+    write_number(hazomeny_number(answer));
+    write_number(length);
+    fwrite(lent, 1, length, stdout);
+}
+
+/* A whole read; 0 at the end of the batch. */
+static int read_all(uint8_t *into, size_t length) {
+    size_t n = fread(into, 1, length, stdin);
+    if (n == length) return 1;
+    if (n == 0 && feof(stdin)) return 0;
+    stop("a request is cut short");
+    return 0;
+}
+
+int main(void) {
+    uint8_t header[HEADER];
+    while (read_all(header, HEADER)) {
+        size_t length = read_number(header + 7);
+        uint8_t *file = room_for(length);
+        if (length && !read_all(file, length)) stop("a request has no file");
+        if (header[0] != CHECK) stop("no such operation");
+        respond(hazomeny_check(file, length), file, 0); /* nothing is lent */
+        free(file);
+    }
+    return fflush(stdout) == 0 ? 0 : 1;
+}
