@@ -1,0 +1,4 @@
+-- Loops over fields.
+pub mod Spans
+pub mod Loops
+pub mod OfFields

@@ -1,0 +1,37 @@
+-- The first field of bytes that begin with one.
+use mathlib.Core.Path.{_≡_, sym, _∙_}
+use mathlib.Core.List.{List, _++_}
+use Prim.Native.Nat.{ℕ, suc, _+_, _<_}
+use native.Mathlib.Omega.{arith}
+use lib.ListN.{length, take, drop, length-append}
+use lib.Seq.{take-at, drop-at}
+use Rattle.rules.specs.Encode.{field}
+use Rattle.parts.specs.Walk.{span, here, rest, walk, fold}
+use Rattle.parts.proofs.Loops.{walk-step, fold-step}
+
+pub length-field : (t : ℕ) (v : List ℕ) → length (field t v) ≡ 3 + length v
+unfolding field
+length-field t v = omega arith
+
+module _ (t : ℕ) (v r : List ℕ) (h : length v < 65_536) where
+  pub span-field : span (field t v ++ r) ≡ length (field t v)
+  unfolding span field
+  span-field = omega (arith, length-append v r)
+
+  pub here-field : here (field t v ++ r) ≡ field t v
+  unfolding here
+  here-field = take-at (field t v) r (span (field t v ++ r)) (sym span-field)
+
+  pub rest-field : rest (field t v ++ r) ≡ r
+  unfolding rest
+  rest-field = drop-at (field t v) r (span (field t v ++ r)) (sym span-field)
+
+  -- going over a field and what follows it
+  pub walk-field : {A : Type 0} (f : A → List ℕ → List ℕ → A × List ℕ) (k : ℕ) (a : A)
+      → walk f (suc k) a (field t v ++ r) ≡ (walk f k (f a (field t v) r .0) r .0, f a (field t v) r .1 ++ walk f k (f a (field t v) r .0) r .1)
+  unfolding field
+  walk-field f k a = walk-step f k a (field t v ++ r) (omega arith) ∙ rw (here-field, rest-field)
+
+  pub fold-field : {A : Type 0} (f : A → List ℕ → A) (k : ℕ) (a : A) → fold f (suc k) a (field t v ++ r) ≡ fold f k (f a (field t v)) r
+  unfolding field
+  fold-field f k a = fold-step f k a (field t v ++ r) (omega arith) ∙ rw (here-field, rest-field)

@@ -1,0 +1,2 @@
+-- The laws of capped sums and of appending.
+pub mod Appending
