@@ -1,0 +1,10 @@
+-- The laws behind layout.
+pub mod StretchLaws
+pub mod ChoiceLaws
+pub mod NodeLaws
+pub mod LoopLaws
+pub mod Counted
+pub mod Rows
+pub mod Nodes
+pub mod OfTrees
+pub mod WholeLaws

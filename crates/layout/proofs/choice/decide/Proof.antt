@@ -1,0 +1,60 @@
+-- `layout::choice::decide` meets its contract: a block, a candidate that does not fit, and one that does.
+use borrow.Author.Needs.{needs}
+use Rattle.layout.specs.Said.{said}
+use Rattle.layout.proofs.ChoiceLaws.{decided-block, decided-over, decided-within}
+use Rattle.layout.proofs.choice.decide.Statement.{statement}
+use Rattle.layout.proofs.choice.decide.Tie as tie
+
+enum-known-a : tie.Need-enum-known-a
+enum-known-a c = search needs
+
+enum-told : tie.Need-enum-told
+enum-told c = search needs
+
+indented-requires : tie.Need-indented-requires
+indented-requires c κs = search needs
+
+same-length : tie.Need-same-length
+same-length c = search needs
+
+returns : tie.Need-returns
+returns c = decided-block _ _ _ _ (c .before .before .before .before .enum-told .given .1) (c .before .before .indented .ensures)
+
+saturating-sub-requires : tie.Need-saturating-sub-requires
+saturating-sub-requires c κs = search needs
+
+indented-requires-2 : tie.Need-indented-requires-2
+indented-requires-2 c κs = search needs
+
+same-length-2 : tie.Need-same-length-2
+same-length-2 c = search needs
+
+returns-2 : tie.Need-returns-2
+returns-2 c = decided-over _ _ _ _ (c .before .before .before .before .before .before .before .a .given .1) (c .before .before .before .before .before .saturating-sub .ensures) (c .before .before .before .before .if1 .taken) (c .before .before .indented2 .ensures)
+
+inline-requires : tie.Need-inline-requires
+inline-requires c κs = search needs
+
+append-requires : tie.Need-append-requires
+append-requires c κs = search needs
+
+returns-3 : tie.Need-returns-3
+unfolding said
+returns-3 c = decided-within _ _ _ _ (c .before .before .before .before .before .a .given .1) (c .before .before .before .saturating-sub .ensures) (c .before .before .if1 .left) (c .before .inline .ensures) (c .append .ensures)
+
+pub decide-spec : {M : Type 1} → statement M
+decide-spec =
+    tie.close
+    (tie.spec
+    enum-known-a
+    enum-told
+    indented-requires
+    same-length
+    returns
+    saturating-sub-requires
+    indented-requires-2
+    same-length-2
+    returns-2
+    inline-requires
+    append-requires
+    returns-3)

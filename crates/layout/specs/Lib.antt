@@ -1,0 +1,3 @@
+-- Layout by the bytes of a file.
+pub mod LaidIn
+pub mod Said

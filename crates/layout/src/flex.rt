@@ -1,0 +1,116 @@
+// Flexible layout: a node's, a block's fragments', a fragment's nodes'. They call each other, with one block less left each time round.
+use crate::choice::Laid;
+use crate::choice::MaxWidths;
+use crate::choice::decide;
+use crate::choice::larger;
+use crate::choice::room;
+use crate::stretch::ahead;
+use crate::stretch::past;
+use parts::field_end;
+use rigid::approx_rigid_layout;
+use shapes::ApproxLayout;
+use shapes::append;
+use shapes::block_or_mixed;
+use shapes::inline;
+use shapes::saturating_add;
+use shapes::saturating_sub;
+ghost use Rattle.shapes.specs.Shapes.{shape};
+ghost use Rattle.parts.specs.Walk.{Is};
+ghost use Rattle.layout.specs.Said.{said};
+ghost use Rattle.layout.specs.LaidIn.{flex-in, fragments-in, fragment-in};
+
+// What a block's lines are indented by.
+const INDENT: u16 = 20;
+
+// A node, whose whole field is s, after what is laid out so far.
+fn approx_flex_layout(s: &mut [u8], widths: MaxWidths, so_far: ApproxLayout, left: usize) -> Laid
+    ensures { λ r. ⌜ Is (flex-in left (widths .inline) (widths .block) (shape «so_far») (now (s .entry))) (said r) (now (s .exit)) ⌝ }
+{
+    if left == 0 {
+        return Laid {
+            layout: so_far,
+            changed: 0,
+        };
+    }
+    if s.len() == 0 {
+        return Laid {
+            layout: so_far,
+            changed: 0,
+        };
+    }
+    let tag = s[0];
+    let block = saturating_sub(widths.block, INDENT);
+    if tag == 3 {
+        let l = approx_fragments_layout(
+            s,
+            MaxWidths {
+                inline: block,
+                block,
+            },
+            left - 1,
+        );
+        return Laid {
+            layout: append(so_far, block_or_mixed(0, 0)),
+            changed: l.changed,
+        };
+    }
+    if tag != 4 {
+        return Laid {
+            layout: so_far,
+            changed: 0,
+        };
+    }
+    let inline_max = room(widths, so_far);
+    let l = approx_fragments_layout(
+        s,
+        MaxWidths {
+            inline: larger(inline_max, block),
+            block,
+        },
+        left - 1,
+    );
+    decide(s, inline_max, so_far, l)
+}
+
+// A block's fragments, one after the other; s is the block's whole field.
+fn approx_fragments_layout(s: &mut [u8], widths: MaxWidths, left: usize) -> Laid
+    ensures { λ r. ⌜ Is (fragments-in (fragment-in left (widths .inline) (widths .block) 3) (now (s .entry))) (said r) (now (s .exit)) ⌝ }
+{
+    let mut layout = inline(0, 0);
+    let mut changed = 0;
+    let mut at = 3;
+    while at < s.len() {
+        let to = field_end(s, at);
+        let l = approx_layout(&mut s[at..to], 3, widths, left);
+        let own = l.layout;
+        layout = append(layout, own);
+        changed = saturating_add(changed, l.changed);
+        at = to;
+    }
+    Laid { layout, changed }
+}
+
+// A fragment's nodes, from `from` on.
+pub fn approx_layout(s: &mut [u8], from: usize, widths: MaxWidths, left: usize) -> Laid
+    ensures { λ r. ⌜ Is (fragment-in left (widths .inline) (widths .block) from (now (s .entry))) (said r) (now (s .exit)) ⌝ }
+{
+    if s.len() < from {
+        return Laid {
+            layout: inline(0, 0),
+            changed: 0,
+        };
+    }
+    let mut layout = ahead(&s[from..], inline(0, 0));
+    let mut changed = 0;
+    let mut at = from;
+    while at < s.len() {
+        let to = field_end(s, at);
+        let own = approx_rigid_layout(&s[at..to]);
+        let l = approx_flex_layout(&mut s[at..to], widths, layout, left);
+        let so_far = l.layout;
+        layout = past(own, so_far, &s[to..]);
+        changed = saturating_add(changed, l.changed);
+        at = to;
+    }
+    Laid { layout, changed }
+}

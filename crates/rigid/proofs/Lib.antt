@@ -1,0 +1,5 @@
+-- Laws that the proofs of the code cite.
+pub mod Lines
+pub mod Tags
+pub mod Runs
+pub mod OfLeaves

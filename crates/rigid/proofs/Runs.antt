@@ -1,0 +1,88 @@
+-- The fields of a 1, and the runs of a 2 one after the other.
+use mathlib.Core.Path.{_≡_, refl, sym, ap, _∙_}
+use mathlib.Core.List.{List}
+use Prim.Native.Nat.{ℕ, _-_, _≤_, _<_}
+use native.Mathlib.Omega.{arith}
+use lib.ListN.{length, getD, take, drop, length-drop, drop-of-length-le}
+use borrow.Author.Tests.{eq-eqb, ne-eqb, le-leb, lt-leb}
+use Rattle.rules.specs.Tree.{Styles}
+use Rattle.rules.specs.Layout.{Shape, Inline, _⊕_, byte-width, effective}
+use Rattle.fields.specs.declared.Field.{Field}
+use Rattle.fields.specs.declared.Field.the-variants.{Whole, Past, Cut}
+use Rattle.fields.specs.FieldAt.{field-at}
+use Rattle.styles.specs.StylesIn.{styles-in}
+use Rattle.parts.specs.Walk.{fold, span, here, Ends}
+use Rattle.parts.proofs.Loops.{Left, left-more, fold-nil, fold-step}
+use Rattle.rigid.specs.RigidIn.{text-in, part, chars-in, styled-in, run-in, with-run, anchor-in}
+use Rattle.rigid.proofs.Tags.{behind}
+
+-- ---- the fields of a 1
+
+-- a 17 that is not whole
+no-chars : (v : List ℕ) (w : ℕ) (g : Field) → ((t from to : ℕ) → g ≡ Whole t from to → ⊥) → chars-in v w g ≡ Inline 0 0
+unfolding chars-in
+no-chars v w (Whole t from to) n = absurd (n t from to refl)
+no-chars v w (Past t) n = refl
+no-chars v w Cut n = refl
+
+no-fields : (v : List ℕ) (f : Field) → ((t from to : ℕ) → f ≡ Whole t from to → ⊥) → styled-in v f ≡ Inline 0 0
+unfolding styled-in
+no-fields v (Whole t from to) n = absurd (n t from to refl)
+no-fields v (Past t) n = refl
+no-fields v Cut n = refl
+
+module _ (v : List ℕ) {r : Shape} {f : Field} (e : f ≡ field-at v 0) where
+  pub no-run : ((t from to : ℕ) → f ≡ Whole t from to → ⊥) → r ≡ Inline 0 0 → r ≡ run-in v
+  unfolding run-in
+  no-run n h = rw (← e) (h ∙ sym (no-fields v f n))
+
+  module _ {t from to : ℕ} (w : f ≡ Whole t from to) where
+    pub plain-run : (t ≡ 16 → ⊥) → r ≡ text-in 10 (take (to - from) (drop from v)) → r ≡ run-in v
+    unfolding run-in styled-in part
+    plain-run n h = rw (sym e ∙ w, ne-eqb t 16 n) h
+
+    -- with a style
+    module _ (s : t ≡ 16) {g : Field} (e′ : g ≡ field-at v to) where
+      pub cut-run : ((t from to : ℕ) → g ≡ Whole t from to → ⊥) → r ≡ Inline 0 0 → r ≡ run-in v
+      unfolding run-in styled-in
+      cut-run n h = rw (sym e ∙ w, eq-eqb t 16 s, ← e′) (h ∙ sym (no-chars v _ g n))
+
+      pub styled-run : {st : Styles} {c : ℕ} {t′ from′ to′ : ℕ} → g ≡ Whole t′ from′ to′ → st ≡ styles-in (take (to - from) (drop from v))
+          → c ≡ byte-width (effective st) → r ≡ text-in c (take (to′ - from′) (drop from′ v)) → r ≡ run-in v
+      unfolding run-in styled-in chars-in part
+      styled-run w′ es ec h = rw (sym e ∙ w, eq-eqb t 16 s, ← es, ← ec, sym e′ ∙ w′) h
+
+-- ---- a field of a 2
+
+module _ (so-far : Shape) (h : List ℕ) where
+  pub short-field : length h < 3 → so-far ≡ with-run so-far h
+  unfolding with-run
+  short-field l = rw (lt-leb 3 (length h) l)
+
+  pub other-field : 3 ≤ length h → (getD h 0 0 ≡ 1 → ⊥) → so-far ≡ with-run so-far h
+  unfolding with-run
+  other-field l n = rw (le-leb 3 (length h) l, ne-eqb (getD h 0 0) 1 n)
+
+  pub one-run : {r x : Shape} → 3 ≤ length h → getD h 0 0 ≡ 1 → x ≡ run-in (take (length h - 3) (drop 3 h)) → r ≡ so-far ⊕ x → r ≡ with-run so-far h
+  unfolding with-run
+  one-run l n e q = rw (le-leb 3 (length h) l, eq-eqb (getD h 0 0) 1 n) (q ∙ ap (λ x. so-far ⊕ x) (e ∙ ap run-in (behind h)))
+
+-- ---- all of them
+
+-- what is left of the runs
+abbrev pub Runs-left : (v : List ℕ) (at : ℕ) → Shape → Type 0
+Runs-left v at a = Left (fold with-run) (anchor-in v) v at a
+
+pub all-runs : (v : List ℕ) {a : Shape} → a ≡ Inline 0 0 → Runs-left v 0 a
+unfolding anchor-in
+all-runs v e = record { fuel = length v; enough = omega arith; work = rw e }
+
+module _ {v : List ℕ} {at : ℕ} {a : Shape} (l : Runs-left v at a) where
+  pub next-run : {to : ℕ} {b : Shape} → at < length v → Ends v at to → b ≡ with-run a (take (to - at) (drop at v)) → Runs-left v to b
+  unfolding here
+  next-run {to} {b} h e q =
+      let n : to - at ≡ span (drop at v) = omega (arith, e .end) in
+      left-more l h e (λ k. fold-step with-run k a (drop at v) (omega (arith, length-drop at v)) ∙ rw (← n, ← q))
+
+  pub no-runs : length v ≤ at → a ≡ anchor-in v
+  no-runs h = sym (l .work ∙ rw (drop-of-length-le v h, fold-nil with-run (l .fuel) a))

@@ -1,0 +1,2 @@
+-- A node's rigid layout by its bytes.
+pub mod RigidIn
