@@ -21,6 +21,9 @@ static inline uint64_t hazomeny_number(uint64_t answer) { return answer >> 8; }
 /* The file check: its count is 0. */
 uint64_t hazomeny_check(const uint8_t *file, size_t length);
 
+/* Layout in place, at a width in columns: its count is the tags that changed from 4 to 3. A refusal changes no byte. */
+uint64_t hazomeny_layout(uint8_t *file, size_t length, size_t width);
+
 #ifdef __cplusplus
 }
 #endif

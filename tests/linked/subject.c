@@ -4,7 +4,7 @@
 #include <stdio.h>
 #include <stdlib.h>
 
-enum { HEADER = 11, CHECK = 0 };
+enum { HEADER = 11, CHECK = 0, LAYOUT = 1 };
 
 static void stop(const char *why) {
     fprintf(stderr, "subject: %s\n", why);
@@ -33,6 +33,15 @@ static void respond(uint64_t answer, const uint8_t *lent, size_t length) {
     fwrite(lent, 1, length, stdout);
 }
 
+static void answer(const uint8_t *header, uint8_t *file, size_t length) {
+    size_t width = (size_t)header[1] << 8 | header[2];
+    switch (header[0]) {
+    case CHECK: respond(hazomeny_check(file, length), file, 0); break; /* nothing is lent */
+    case LAYOUT: respond(hazomeny_layout(file, length, width), file, length); break;
+    default: stop("no such operation");
+    }
+}
+
 /* A whole read; 0 at the end of the batch. */
 static int read_all(uint8_t *into, size_t length) {
     size_t n = fread(into, 1, length, stdin);
@@ -48,8 +57,7 @@ int main(void) {
         size_t length = read_number(header + 7);
         uint8_t *file = room_for(length);
         if (length && !read_all(file, length)) stop("a request has no file");
-        if (header[0] != CHECK) stop("no such operation");
-        respond(hazomeny_check(file, length), file, 0); /* nothing is lent */
+        answer(header, file, length);
         free(file);
     }
     return fflush(stdout) == 0 ? 0 : 1;

@@ -1,11 +1,12 @@
 // The public entries: each takes every file, width and page buffer, asks nothing of its caller, and answers as document 01 says. The C
 // names take numbers and slices and answer in one number (`coded` of rules).
 use answers::in_one;
+use layout::whole::layout_with_max_line_width;
 use rules::Answer;
 use verify::walk::check;
 ghost use mathlib.Core.Path.{_≡_};
 ghost use Rattle.rules.specs.Result.{said};
-ghost use Rattle.rules.specs.Answers.{check-answer, coded};
+ghost use Rattle.rules.specs.Answers.{check-answer, layout-outcome, coded, coded-outcome};
 
 // The file check: accepted with 0, or the first fault's number and place.
 pub fn check_file(file: &[u8]) -> Answer
@@ -19,4 +20,18 @@ pub extern "C" fn hazomeny_check(file: &[u8]) -> u64
     ensures { λ r. ⌜ r ≡ coded (check-answer (now (file .entry))) ⌝ }
 {
     in_one(check_file(file))
+}
+
+// Layout in place, at a width in columns: accepted with the number of tags that changed from 4 to 3; a refusal changes no byte.
+pub fn layout_file(file: &mut [u8], width: usize) -> Answer
+    ensures { λ r. ⌜ (said r, now (file .exit)) ≡ layout-outcome width (now (file .entry)) ⌝ }
+{
+    layout_with_max_line_width(file, width)
+}
+
+#[no_mangle]
+pub extern "C" fn hazomeny_layout(file: &mut [u8], width: usize) -> u64
+    ensures { λ r. ⌜ (r, now (file .exit)) ≡ coded-outcome (layout-outcome width (now (file .entry))) ⌝ }
+{
+    in_one(layout_file(file, width))
 }

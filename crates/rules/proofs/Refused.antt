@@ -180,15 +180,19 @@ never-both s t n p x y = let z : _≡_ {A = ℕ} 0 1 = cc in no-path z
 pub cut-verdict : (s : List ℕ) (k : ℕ) → Verdict (take k s)
 cut-verdict s k = verdict (take k s)
 
--- THE FILE CHECK'S ANSWER FITS 64 BITS
+-- A REFUSED FILE'S ANSWER FITS 64 BITS
+pub coded-refused : (s : List ℕ) (n p : ℕ) → tree s ≡ refused n p → p * 256 + n < 2 ^ 64
+coded-refused s n p e = bounded (refused-place s n p e)
+  where
+    bounded : Refusable s n p → p * 256 + n < 2 ^ 64
+    bounded (too-long x y l) = omega (arith, x, y)
+    bounded (at-fault F l m) = omega (arith, F .1)
+
+-- and so does the file check's
 pub coded-check : (s : List ℕ) → coded (check-answer s) < 2 ^ 64
 unfolding coded check-answer _>>=_
 coded-check s = go (tree s) refl
   where
-    bounded : (n p : ℕ) → Refusable s n p → p * 256 + n < 2 ^ 64
-    bounded n p (too-long x y l) = omega (arith, x, y)
-    bounded n p (at-fault F l m) = omega (arith, F .1)
-
     go : (r : Result (Frag ℕ)) → tree s ≡ r → coded (r >>= (λ t. accepted 0)) < 2 ^ 64
     go (accepted t) e = omega arith
-    go (refused n p) e = bounded n p (refused-place s n p e)
+    go (refused n p) e = coded-refused s n p e

@@ -89,3 +89,7 @@ document-outcome s page = left-page (document-text s) page
 unfoldable pub coded : Result ℕ → ℕ
 coded (accepted n) = n * 256
 coded (refused n p) = p * 256 + n
+
+-- an outcome so: the bytes left are the same
+unfoldable pub coded-outcome : Result ℕ × List ℕ → ℕ × List ℕ
+coded-outcome x = (coded (x .0), x .1)

@@ -1,0 +1,2 @@
+-- What the C names need: that an answer fits 64 bits.
+pub mod Fits
