@@ -11,6 +11,7 @@ use crate::random::Random;
 use crate::record;
 use crate::selftest;
 use crate::subject::{Child, Oneself, Subject};
+use crate::tree;
 use crate::wire;
 use std::fs;
 use std::io::{self, Read, Write};
@@ -35,6 +36,9 @@ oracle COMMAND: the Rust original's answers for fragment files
   compare --subject WHAT [--parts P,P] [--seed S] [--files N]
                                WHAT is `self` or a command that reads a request
                                batch and writes the response batch
+  time [--width W] [--times N] FILE
+                               prints how long the original takes to lay the
+                               file's tree out: nanoseconds, the best of N
   selftest [--seed S] [--files N]
                                tests the judge itself
   help                         prints this
@@ -55,6 +59,7 @@ pub fn run(words: &[String]) -> Result<ExitCode, Mistake> {
         "record" => run_record(&Options::new(rest, &[])?),
         "lines" => run_lines(&Options::new(rest, &["seed", "files"])?),
         "compare" => run_compare(&Options::new(rest, &["subject", "parts", "seed", "files"])?),
+        "time" => run_time(&Options::new(rest, &["width", "times"])?),
         "selftest" => run_selftest(&Options::new(rest, &["seed", "files"])?),
         "help" | "--help" => print(USAGE.as_bytes()),
         other => Err(format!("no command {other}")),
@@ -106,6 +111,17 @@ fn run_ask(options: &Options) -> Result<ExitCode, Mistake> {
             Ok(ExitCode::FAILURE)
         }
     }
+}
+
+fn run_time(options: &Options) -> Result<ExitCode, Mistake> {
+    let [path] = options.words()?;
+    let file = fs::read(path).map_err(|e| format!("{path}: {e}"))?;
+    check(&file).map_err(|refusal| wire::answer_words(refusal.into()))?;
+    let width = options.number("width")?.unwrap_or(80);
+    let times = options.number("times")?.unwrap_or(100_u32);
+    let best = (0..times).map(|_| tree::layout_time(&file, width)).min();
+    println!("{}", best.ok_or("no times")?);
+    Ok(ExitCode::SUCCESS)
 }
 
 fn named(name: &str) -> Result<Operation, Mistake> {

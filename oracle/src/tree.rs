@@ -3,6 +3,8 @@
 use crate::print::pretty::{Fragment, FragmentPostLayout, Node, Styles};
 use crate::tags::*;
 use std::borrow::Cow;
+use std::hint::black_box;
+use std::time::Instant;
 
 type Run = (Option<Styles>, Cow<'static, str>);
 
@@ -11,6 +13,18 @@ pub fn laid_out(file: &[u8], width: u16) -> Vec<u8> {
     with_tree(file, width, |tree, width| {
         encode(&tree.layout_with_max_line_width(width).into_fragment())
     })
+}
+
+/// How long the original took to lay the file's tree out, in nanoseconds.
+pub fn layout_time(file: &[u8], width: u16) -> u128 {
+    let took = with_tree(file, width, |tree, width| {
+        let start = Instant::now();
+        let laid_out = black_box(tree.layout_with_max_line_width(width));
+        let took = start.elapsed();
+        drop(laid_out);
+        took.as_nanos().to_be_bytes().to_vec()
+    });
+    u128::from_be_bytes(took.try_into().expect("the bytes of one number"))
 }
 
 /// The original's plain page of a file as it stands.

@@ -102,15 +102,15 @@ pub fn approx_layout(s: &mut [u8], from: usize, widths: MaxWidths, left: usize) 
     }
     let mut layout = ahead(&s[from..], inline(0, 0));
     let mut changed = 0;
-    let mut at = from;
-    while at < s.len() {
-        let to = field_end(s, at);
-        let own = approx_rigid_layout(&s[at..to]);
-        let l = approx_flex_layout(&mut s[at..to], widths, layout, left);
+    let mut node = from;
+    while node < s.len() {
+        let end = field_end(s, node);
+        let own = approx_rigid_layout(&s[node..end]);
+        let l = approx_flex_layout(&mut s[node..end], widths, layout, left);
         let so_far = l.layout;
-        layout = past(own, so_far, &s[to..]);
+        layout = past(own, so_far, &s[end..]);
         changed = saturating_add(changed, l.changed);
-        at = to;
+        node = end;
     }
     Laid { layout, changed }
 }

@@ -10,7 +10,7 @@ fn replay(s: &[u8]) {
     let mut at = 0;
     while at < s.len() {
         let r = request_at(s, at);
-        let Request::File { from, to } = r else {
+        let Request::File { width, from, to } = r else {
             return;
         };
         tell(check(&s[from..to]));

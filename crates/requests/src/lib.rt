@@ -8,8 +8,12 @@ ghost use Rattle.requests.specs.Requests.{Stands};
 pub const HEADER: usize = 11;
 
 pub enum Request {
-    // its file stands from `from` to `to`
-    File { from: usize, to: usize },
+    // its width; its file stands from `from` to `to`
+    File {
+        width: usize,
+        from: usize,
+        to: usize,
+    },
     // no whole request is left
     NoMore,
 }
@@ -19,6 +23,12 @@ fn file_length(s: &[u8], at: usize) -> usize
     requires { ⌜ at + 11 ≤ length (now s) ⌝ }
 {
     (wide(s[at + 8]) * 256 + wide(s[at + 9])) * 256 + wide(s[at + 10])
+}
+
+fn width_of(s: &[u8], at: usize) -> usize
+    requires { ⌜ at + 11 ≤ length (now s) ⌝ }
+{
+    wide(s[at + 1]) * 256 + wide(s[at + 2])
 }
 
 // The request at `at`.
@@ -36,5 +46,9 @@ pub fn request_at(s: &[u8], at: usize) -> Request
     if s.len() - from < n {
         return Request::NoMore;
     }
-    Request::File { from, to: from + n }
+    Request::File {
+        width: width_of(s, at),
+        from,
+        to: from + n,
+    }
 }

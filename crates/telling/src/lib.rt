@@ -24,6 +24,19 @@ pub fn tell(answer: Answer) {
     }
 }
 
+// The bytes in hex after a space; of no bytes, nothing.
+pub fn tell_bytes(s: &[u8]) {
+    if s.len() == 0 {
+        return;
+    }
+    io::write_all(STDOUT_FILENO, b" ");
+    let mut at = 0;
+    while at < s.len() {
+        io::print_hex(STDOUT_FILENO, s[at] as u64, 2);
+        at += 1;
+    }
+}
+
 pub fn end_line() {
     io::write_all(STDOUT_FILENO, b"\n");
 }

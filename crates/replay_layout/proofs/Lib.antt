@@ -1,0 +1,2 @@
+-- The batch keeps its length.
+pub mod Kept
