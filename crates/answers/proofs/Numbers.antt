@@ -4,7 +4,7 @@ use Prim.Native.Nat.{ℕ, _+_, _*_}
 use Rattle.rules.specs.declared.Refusal.{Refusal}
 use Rattle.rules.specs.declared.Answer.{Answer}
 use Rattle.rules.specs.declared.Answer.the-variants.{Done, Refused}
-use Rattle.rules.specs.Result.{Result, refused, refusal, said}
+use Rattle.rules.specs.Result.{refused, refusal, said}
 use Rattle.rules.specs.Answers.{coded}
 
 -- a case of the match: v is what r is, and its number and place are n and p

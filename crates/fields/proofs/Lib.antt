@@ -1,2 +1,3 @@
 -- Laws of the field at a place.
 pub mod Laws
+pub mod Encoded

@@ -1,8 +1,8 @@
 -- Every answer fits 64 bits: places and counts are at most a file's length.
-use mathlib.Core.Path.{_≡_, refl, sym, _∙_, ap, subst}
+use mathlib.Core.Path.{_≡_, refl, _∙_, ap}
 use mathlib.Core.List.{List}
 use mathlib.Core.Bool.{Bool, true, false}
-use Prim.Native.Nat.{ℕ, _+_, _*_, _^_, _<_, _≤_}
+use Prim.Native.Nat.{ℕ, _^_, _<_}
 use native.Mathlib.Omega.{arith}
 use lib.Dec.{leb}
 use lib.ListN.{length}
@@ -12,7 +12,7 @@ use Rattle.rules.specs.Result.{Result, refused, accepted, _>>=_, _>>_, need}
 use Rattle.rules.specs.Tree.{Frag}
 use Rattle.rules.specs.Encode.{encode}
 use Rattle.rules.specs.Layout.{layout}
-use Rattle.rules.specs.Answers.{tree, changed, laid-out, left-laid, layout-outcome, coded, coded-outcome}
+use Rattle.rules.specs.Answers.{tree, laid-out, left-laid, layout-outcome, coded, coded-outcome}
 use Rattle.rules.proofs.Refused.{coded-refused}
 use Rattle.layout.proofs.Counted.{changed-le}
 

@@ -1,16 +1,16 @@
 -- The loops over a block's fragments and over a fragment's nodes: their start, a turn, and what stands behind a node.
-use mathlib.Core.Path.{_≡_, refl, sym, ap, _∙_}
+use mathlib.Core.Path.{_≡_, sym, ap, _∙_}
 use mathlib.Core.List.{List, [], _++_, append-nil, append-assoc}
-use Prim.Native.Nat.{ℕ, zero, _+_, _-_, _<_, _≤_}
+use Prim.Native.Nat.{ℕ, _+_, _-_, _<_, _≤_}
 use native.Mathlib.Omega.{arith}
 use lib.ListN.{length, take, drop, length-drop, length-take, length-append, drop-of-length-le}
 use lib.Seq.{take-all, drop-at}
 use Rattle.rules.specs.Bytes.{cap}
-use Rattle.rules.specs.Layout.{Shape, Inline, Block, _⊕_}
+use Rattle.rules.specs.Layout.{Shape, Inline, _⊕_}
 use Rattle.rigid.specs.RigidIn.{rigid-in}
-use Rattle.parts.specs.Walk.{Is, Ends, walk, over}
+use Rattle.parts.specs.Walk.{Is, over}
 use Rattle.parts.proofs.Loops.{Part, starts, walk-nil}
-use Rattle.layout.specs.LaidIn.{Laid, ahead-in, past-in, with-fragment, fragments-in, with-node, nodes-in, flex-in, fragment-in}
+use Rattle.layout.specs.LaidIn.{Laid, ahead-in, past-in, with-fragment, with-node, nodes-in}
 use Rattle.layout.proofs.StretchLaws.{ahead-nil}
 
 -- ---- a block's fragments

@@ -1,12 +1,12 @@
 -- A node's flexible layout: its cases.
-use mathlib.Core.Path.{_≡_, refl, sym, ap, _∙_}
+use mathlib.Core.Path.{_≡_, refl, ap, _∙_}
 use mathlib.Core.List.{List, [], _∷_}
-use Prim.Native.Nat.{ℕ, zero, suc, _+_, _-_, _<_, max}
+use Prim.Native.Nat.{ℕ, zero, suc, _-_, _<_, max}
 use native.Mathlib.Numerals.{sub-one}
 use native.Mathlib.Omega.{arith}
 use lib.ListN.{length, getD}
 use borrow.Author.Tests.{eq-eqb, ne-eqb}
-use Rattle.rules.specs.Layout.{Shape, Inline, Block, _⊕_, room}
+use Rattle.rules.specs.Layout.{Shape, Block, _⊕_, room}
 use Rattle.parts.specs.Walk.{Is}
 use Rattle.layout.specs.LaidIn.{Laid, decided, fragments-in, node-in, nodes-in, flex-in, fragment-in}
 

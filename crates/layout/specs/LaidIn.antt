@@ -1,6 +1,6 @@
 -- Layout by bytes: a node, a block's fragments, a fragment's nodes, in place; for any bytes, so that no caller owes anything.
 use mathlib.Core.List.{List, [], _∷_}
-use Prim.Native.Nat.{ℕ, zero, suc, _+_, _*_, _-_, max}
+use Prim.Native.Nat.{ℕ, zero, suc, _+_, _-_, max}
 use lib.Dec.{leb, eqb}
 use lib.ListN.{length, getD, drop, set}
 use mathlib.Core.Bool.{Bool, true, false}

@@ -3,11 +3,9 @@ use mathlib.Core.Path.{_≡_, refl, sym, ap, _∙_}
 use mathlib.Core.List.{List, [], _∷_, _++_}
 use mathlib.Core.Option.{Option, none, some}
 use mathlib.Core.Bool.{Bool, true, false}
-use Prim.Native.Nat.{ℕ, zero, suc, _+_, _-_, _*_, _/_, _%_, _≤_, _<_}
+use Prim.Native.Nat.{ℕ, zero, suc, _+_, _-_, _≤_, _<_}
 use native.Mathlib.Omega.{arith}
-use lib.Dec.{leb}
 use lib.ListN.{length, length-append}
-use lib.Seq.{getD-append-seam, getD-append-add, drop-append-add, take-at}
 use borrow.Author.Tests.{le-leb}
 use Rattle.rules.specs.Bytes.{newline}
 use Rattle.rules.specs.Walk.{Fields, bytes, in-fragment, in-text, in-anchor, in-styles, holds}
@@ -17,8 +15,7 @@ use Rattle.rules.specs.Good.{Good}
 use Rattle.rules.specs.Layout.{Shape, Inline, _⊕_, byte-width, styled-width, width, parts, parts-shape, only-if-block, rigid-text, rigid-runs, rigid}
 use Rattle.rules.proofs.Typed.{inner-good}
 use Rattle.rules.proofs.Turned.{leaf-bytes}
-use Rattle.fields.specs.declared.Field.the-variants.{Whole}
-use Rattle.fields.specs.FieldAt.{field-at}
+use Rattle.fields.proofs.Encoded.{field-here, value-here}
 use Rattle.styles.specs.StylesIn.{styles-in}
 use Rattle.styles.specs.Sound.{good-styles}
 use Rattle.parts.specs.Walk.{fold}
@@ -26,26 +23,11 @@ use Rattle.parts.proofs.Loops.{fold-nil}
 use Rattle.parts.proofs.OfFields.{length-field, fold-field}
 use Rattle.rigid.specs.RigidIn.{wide, by-parts, text-in, part, chars-in, styled-in, run-in, with-run, anchor-in, by-tag, rigid-in}
 
--- ---- a field behind some bytes
-
-module _ (a : List ℕ) (t : ℕ) (v b : List ℕ) where
-  -- it is whole
-  field-here : length v < 65_536 → field-at (a ++ (field t v ++ b)) (length a) ≡ Whole t (length a + 3) (length a + 3 + length v)
-  unfolding field-at field
-  field-here l =
-      let s : List ℕ = t ∷ (length v / 256) ∷ (length v % 256) ∷ (v ++ b) in
-      let m : length (a ++ s) ≡ length a + 3 + length v + length b = omega (arith, length-append a s, length-append v b) in
-      let n : length v / 256 * 256 + length v % 256 ≡ length v = omega arith in
-      let h₁ : leb (length a + 3) (length (a ++ s)) ≡ true = le-leb (length a + 3) (length (a ++ s)) (omega arith) in
-      let h₂ : leb (length a + 3 + length v) (length (a ++ s)) ≡ true = le-leb (length a + 3 + length v) (length (a ++ s)) (omega arith) in
-      rw (getD-append-seam a t, getD-append-add a s 1 0, getD-append-add a s 2 0, n, h₁, h₂)
-
-  -- its value
-  value-here : part (a ++ (field t v ++ b)) (length a + 3) (length a + 3 + length v) ≡ v
-  unfolding field part
-  value-here = rw (drop-append-add a (field t v ++ b) 3) (take-at v b (length a + 3 + length v - (length a + 3)) (omega arith))
-
 -- ---- a text
+
+part-here : (a : List ℕ) (t : ℕ) (v b : List ℕ) → part (a ++ (field t v ++ b)) (length a + 3) (length a + 3 + length v) ≡ v
+unfolding part
+part-here = value-here
 
 -- by the width of its style's byte
 by-style : (style : Option (Fields ℕ)) (a : List ℕ) (bs : List (List ℕ)) → by-parts (styled-width style) a bs ≡ parts-shape style a bs
@@ -59,7 +41,7 @@ text-styled style v = by-style style (parts newline v .0) (parts newline v .1)
 
 run-plain : (v : List ℕ) → length v < 65_536 → run-in (field 17 v ++ []) ≡ rigid-text newline none v
 unfolding run-in styled-in styled-width byte-width
-run-plain v l = rw (field-here [] 17 v [] l, value-here [] 17 v []) (text-styled none v)
+run-plain v l = rw (field-here [] 17 v [] l, part-here [] 17 v []) (text-styled none v)
 
 -- the bytes of a 16 and a 17: the 17 stands behind the 16
 run-styled : (j : Fields ℕ) (v : List ℕ) → length (encode-fields j) < 65_536 → length v < 65_536 → styles-in (encode-fields j) ≡ styles-of j
@@ -68,7 +50,7 @@ unfolding run-in styled-in chars-in styled-width
 run-styled j v l m e =
     let s : List ℕ = field 16 (encode-fields j) in
     let p : 3 + length (encode-fields j) ≡ length s = sym (length-field 16 (encode-fields j)) in
-    rw (field-here [] 16 (encode-fields j) (field 17 v ++ []) l, value-here [] 16 (encode-fields j) (field 17 v ++ []), e, p, field-here s 17 v [] m, value-here s 17 v [])
+    rw (field-here [] 16 (encode-fields j) (field 17 v ++ []) l, part-here [] 16 (encode-fields j) (field 17 v ++ []), e, p, field-here s 17 v [] m, part-here s 17 v [])
     (text-styled (some j) v)
 
 -- so a good run

@@ -3,7 +3,7 @@ use mathlib.Core.Path.{_≡_, refl, sym, ap, _∙_}
 use mathlib.Core.List.{List}
 use Prim.Native.Nat.{ℕ, _-_, _≤_, _<_}
 use native.Mathlib.Omega.{arith}
-use lib.ListN.{length, getD, take, drop, length-drop, drop-of-length-le}
+use lib.ListN.{length, getD, take, drop, length-drop}
 use borrow.Author.Tests.{eq-eqb, ne-eqb, le-leb, lt-leb}
 use Rattle.rules.specs.Tree.{Styles}
 use Rattle.rules.specs.Layout.{Shape, Inline, _⊕_, byte-width, effective}
@@ -12,7 +12,7 @@ use Rattle.fields.specs.declared.Field.the-variants.{Whole, Past, Cut}
 use Rattle.fields.specs.FieldAt.{field-at}
 use Rattle.styles.specs.StylesIn.{styles-in}
 use Rattle.parts.specs.Walk.{fold, span, here, Ends}
-use Rattle.parts.proofs.Loops.{Left, left-more, fold-nil, fold-step}
+use Rattle.parts.proofs.Loops.{Left, left-starts, left-more, left-ends, fold-nil, fold-step}
 use Rattle.rigid.specs.RigidIn.{text-in, part, chars-in, styled-in, run-in, with-run, anchor-in}
 use Rattle.rigid.proofs.Tags.{behind}
 
@@ -75,7 +75,7 @@ Runs-left v at a = Left (fold with-run) (anchor-in v) v at a
 
 pub all-runs : (v : List ℕ) {a : Shape} → a ≡ Inline 0 0 → Runs-left v 0 a
 unfolding anchor-in
-all-runs v e = record { fuel = length v; enough = omega arith; work = rw e }
+all-runs v e = left-starts (rw e refl)
 
 module _ {v : List ℕ} {at : ℕ} {a : Shape} (l : Runs-left v at a) where
   pub next-run : {to : ℕ} {b : Shape} → at < length v → Ends v at to → b ≡ with-run a (take (to - at) (drop at v)) → Runs-left v to b
@@ -85,4 +85,4 @@ module _ {v : List ℕ} {at : ℕ} {a : Shape} (l : Runs-left v at a) where
       left-more l h e (λ k. fold-step with-run k a (drop at v) (omega (arith, length-drop at v)) ∙ rw (← n, ← q))
 
   pub no-runs : length v ≤ at → a ≡ anchor-in v
-  no-runs h = sym (l .work ∙ rw (drop-of-length-le v h, fold-nil with-run (l .fuel) a))
+  no-runs h = sym (left-ends l h (λ k. fold-nil with-run k a))

@@ -2,7 +2,7 @@
 use mathlib.Core.Path.{_≡_, refl, sym, _∙_, ap, subst}
 use mathlib.Core.List.{List, [], _∷_, _++_, map}
 use mathlib.Core.Option.{Option, none, some}
-use mathlib.Core.Bool.{true, false, _&&_, not}
+use mathlib.Core.Bool.{true, false, _&&_}
 use Prim.Native.Nat.{ℕ, zero, suc, _+_, _*_, _-_, _/_, _%_, _≤_, _<_}
 use native.Mathlib.Omega.{arith}
 use lib.Dec.{leb}
@@ -10,7 +10,7 @@ use lib.ListN.{length, take, drop, length-take, length-drop, take-append-drop}
 use borrow.Author.Tests.{leb-true, not-true}
 use Rattle.rules.specs.Bytes.{number, number-from}
 use Rattle.rules.specs.Result.{Result, accepted}
-use Rattle.rules.specs.Walk.{Fields, end, bytes, inside, Holder, Field, front, valued, Value, of-bytes, of-fields, put, walk, content, complete, holds, allowed, right-length, is-block}
+use Rattle.rules.specs.Walk.{Fields, end, Holder, Field, front, valued, Value, of-bytes, of-fields, put, walk, content, holds, allowed, right-length, is-block}
 use Rattle.rules.specs.Encode.{field, encode-fields}
 use Rattle.rules.specs.Good.{Bytes, depth-in, Stands, Good}
 use Rattle.rules.specs.Answers.{itself}

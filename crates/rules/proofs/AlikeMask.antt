@@ -3,19 +3,18 @@ use mathlib.Core.Path.{_≡_, refl, sym, _∙_, ap, ap₂, subst}
 use mathlib.Core.List.{List, [], _∷_, _++_, map}
 use mathlib.Core.Option.{none, some}
 use mathlib.Core.Bool.{Bool, true, false, _||_}
-use Prim.Native.Nat.{ℕ, zero, suc, _+_, _*_, _/_, _%_, _≤_, _<_}
-use native.Mathlib.Nat.{div-add-mod'}
+use Prim.Native.Nat.{ℕ, suc, _+_, _/_, _%_, _<_}
 use native.Mathlib.Omega.{arith}
 use lib.Dec.{eqb}
 use lib.ListN.{length, getD, replicate, length-replicate}
 use borrow.Author.Tests.{eqb-true}
 use Rattle.rules.specs.Bytes.{if_then_else_, has}
 use Rattle.rules.specs.Result.{accepted}
-use Rattle.rules.specs.Walk.{Fields, end, bytes, inside, Holder, in-fragment, holds, check}
+use Rattle.rules.specs.Walk.{Fields, end, bytes, inside, Holder, in-fragment, holds}
 use Rattle.rules.specs.Tree.{Frag}
 use Rattle.rules.specs.Encode.{field, encode-fields, frag-fields, encode}
 use Rattle.rules.specs.Good.{Bytes, depth-in, Good}
-use Rattle.rules.specs.Answers.{itself, tree}
+use Rattle.rules.specs.Answers.{tree}
 use Rattle.rules.specs.Mask.{is-text, in-texts, accepted-texts, text-places, Byte-alike, Alike, mask-byte, mask-bytes, mask}
 use Rattle.rules.proofs.Chains.{no-path}
 use Rattle.rules.proofs.Files.{Read, tree-read}

@@ -1,6 +1,6 @@
 -- A chain of steps that was accepted: each of its steps was.
 use mathlib.Core.Path.{_≡_, refl}
-use mathlib.Core.Bool.{Bool, true, false, not}
+use mathlib.Core.Bool.{Bool, true, false}
 use Prim.Native.Nat.{ℕ, zero, suc}
 use native.Mathlib.Omega.{arith}
 use Rattle.rules.specs.Result.{Result, refused, accepted, _>>=_, _>>_, need, sound}

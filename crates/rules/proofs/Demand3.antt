@@ -2,26 +2,26 @@
 -- tags and leaves such files again, and ONE list of page bytes, a function of the masked file, gives both plain pages; for HTML with & and < at
 -- the same places. In the list a byte is made, or copied from a place of the file.
 use mathlib.Core.Path.{_≡_, refl, sym, _∙_, ap, ap₂, fun-ext, subst}
-use mathlib.Core.List.{List, [], _∷_, _++_, map}
+use mathlib.Core.List.{List, [], _∷_}
 use mathlib.Core.Bool.{Bool, true, false, _||_}
-use Prim.Native.Nat.{ℕ, zero, suc, _+_, _≤_, _<_}
+use Prim.Native.Nat.{ℕ, zero, suc, _<_}
 use native.Mathlib.Nat.{zero-add}
 use native.Mathlib.Omega.{arith}
-use lib.Dec.{leb, eqb}
-use lib.ListN.{length, getD, length-map}
+use lib.Dec.{eqb}
+use lib.ListN.{length, getD}
 use Rattle.rules.specs.Bytes.{if_then_else_, has, newline}
-use Rattle.rules.specs.Result.{Result, refused, accepted, _>>=_, _>>_, need}
+use Rattle.rules.specs.Result.{Result, refused, accepted, _>>=_, _>>_}
 use Rattle.rules.specs.Tree.{Frag, stop}
-use Rattle.rules.specs.Encode.{encode, frag-fields}
+use Rattle.rules.specs.Encode.{encode}
 use Rattle.rules.specs.Layout.{layout}
 use Rattle.rules.specs.Lines.{Out, made, copied}
 use Rattle.rules.specs.Plain.{plain, fill}
-use Rattle.rules.specs.Html.{escape, Escape, body, document}
+use Rattle.rules.specs.Html.{escape, body, document}
 use Rattle.rules.specs.Good.{Bytes}
-use Rattle.rules.specs.Answers.{itself, tree, laid-out, changed, left-laid, layout-outcome, plain-text, body-text, document-text}
-use Rattle.rules.specs.Mask.{in-texts, text-places, Byte-alike, Alike, newlines, newlines-and-escapes, mask-byte, mask-bytes, mask}
-use Rattle.rules.proofs.Maps.{map-frag, map-out}
-use Rattle.rules.proofs.Files.{Read, tree-read, good-check}
+use Rattle.rules.specs.Answers.{itself, tree, changed, plain-text, body-text, document-text}
+use Rattle.rules.specs.Mask.{text-places, Byte-alike, Alike, newlines, newlines-and-escapes, mask-byte, mask-bytes, mask}
+use Rattle.rules.proofs.Maps.{map-frag}
+use Rattle.rules.proofs.Files.{tree-read, good-check}
 use Rattle.rules.proofs.Laid.{layout-laid}
 use Rattle.rules.proofs.LaidFile.{layout-length, layout-good}
 use Rattle.rules.proofs.LayoutMap.{layout-map}
@@ -29,7 +29,7 @@ use Rattle.rules.proofs.PageMap.{fill-map, plain-map, body-map, documen
 use Rattle.rules.proofs.Changed.{three-at, turned-at}
 use Rattle.rules.proofs.Turned.{layout-turns}
 use Rattle.rules.proofs.Places.{at, place-frag, placed}
-use Rattle.rules.proofs.Masked.{Ascii, mask-frag, mask-read}
+use Rattle.rules.proofs.Masked.{Ascii, mask-read}
 use Rattle.rules.proofs.AlikeMask.{alike-mask, places-of-read}
 use Rattle.rules.proofs.Filled.{same-changed, laid-texts, mask-place}
 

@@ -1,8 +1,8 @@
 -- The encoding of good fields is accepted, as those fields.
 use mathlib.Core.Path.{_≡_, refl}
 use mathlib.Core.List.{List, [], _∷_, _++_, map}
-use mathlib.Core.Bool.{true, false, _&&_, not}
-use Prim.Native.Nat.{ℕ, zero, suc, _+_, _*_, _-_, _/_, _%_, _≤_, _<_}
+use mathlib.Core.Bool.{true}
+use Prim.Native.Nat.{ℕ, zero, suc, _+_, _-_, _/_, _%_, _≤_}
 use native.Mathlib.Omega.{arith}
 use lib.Dec.{leb}
 use lib.ListN.{length, length-append}
@@ -10,7 +10,7 @@ use lib.Seq.{take-at, drop-at}
 use borrow.Author.Tests.{le-leb}
 use Rattle.rules.specs.Bytes.{number}
 use Rattle.rules.specs.Result.{accepted, _>>=_, _>>_, need, sound}
-use Rattle.rules.specs.Walk.{Fields, end, bytes, inside, Holder, front, valued, walk, is-block}
+use Rattle.rules.specs.Walk.{Fields, end, bytes, inside, Holder, front, valued, walk}
 use Rattle.rules.specs.Encode.{field, encode-fields}
 use Rattle.rules.specs.Good.{depth-in, Stands, Good}
 use Rattle.rules.specs.Answers.{itself}

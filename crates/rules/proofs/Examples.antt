@@ -1,9 +1,9 @@
 -- Document 01's checked examples hold of the rules, and refused files are refused with number and place: each one statement over a list, computed.
 use mathlib.Core.Path.{_≡_, refl}
 use mathlib.Core.List.{map}
-use Rattle.rules.specs.Cases.{Case, answer, examples}
+use Rattle.rules.specs.Cases.{answer, examples}
 use Rattle.rules.specs.Result.{refused}
-use Rattle.rules.specs.Refusals.{Refused-case, answers, refusals}
+use Rattle.rules.specs.Refusals.{answers, refusals}
 use Rattle.rules.proofs.Open.{all-open}
 
 pub examples-hold : map (λ c. answer (c .asked) (c .file)) examples ≡ map (λ c. c .right) examples

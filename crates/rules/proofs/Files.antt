@@ -4,16 +4,15 @@ use mathlib.Core.Path.{_≡_, refl, sym, _∙_, ap, ap₂, subst}
 use mathlib.Core.List.{List, [], _∷_}
 use mathlib.Core.Option.{Option, none, some}
 use mathlib.Core.Logic.{_↔_}
-use mathlib.Core.Bool.{Bool, true, false}
-use Prim.Native.Nat.{ℕ, _≤_}
+use mathlib.Core.Bool.{true, false}
+use Prim.Native.Nat.{ℕ}
 use native.Mathlib.Nat.{le-refl}
-use lib.Dec.{leb}
 use lib.ListN.{length}
 use borrow.Author.Tests.{leb-true, le-leb}
 use Rattle.rules.specs.Bytes.{has}
-use Rattle.rules.specs.Result.{Result, accepted, need, _>>_, _>>=_}
-use Rattle.rules.specs.Walk.{Fields, end, bytes, inside, in-fragment, check, tags}
-use Rattle.rules.specs.Tree.{Run, Leaf, text, anchor, space, force, if-block, Kind, indented, flexible, Frag, stop, leaf, block, Frags, none-left, frag, read, frag-of, frags-of, run-of, runs-of, anchor-of, bytes-of, fields-of, or-empty}
+use Rattle.rules.specs.Result.{accepted, need, _>>_, _>>=_}
+use Rattle.rules.specs.Walk.{Fields, in-fragment, check, tags}
+use Rattle.rules.specs.Tree.{Run, Leaf, text, anchor, space, force, if-block, indented, flexible, Frag, stop, leaf, block, Frags, none-left, frag, read, frag-of, frags-of, run-of, runs-of, anchor-of, bytes-of, fields-of, or-empty}
 use Rattle.rules.specs.Encode.{encode, encode-fields, frag-fields, frags-fields, leaf-fields, run-fields, runs-fields, anchor-tag, block-tag}
 use Rattle.rules.specs.Good.{Bytes, Good, GoodTree}
 use Rattle.rules.specs.Answers.{itself, tree}

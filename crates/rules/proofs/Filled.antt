@@ -7,7 +7,7 @@ use Prim.Native.Nat.{ℕ, _+_}
 use native.Mathlib.Omega.{arith}
 use lib.Dec.{eqb}
 use lib.ListN.{length, length-append, length-map}
-use Rattle.rules.specs.Walk.{Fields, end}
+use Rattle.rules.specs.Walk.{Fields}
 use Rattle.rules.specs.Tree.{Run, Leaf, text, anchor, space, force, if-block, Frag, stop, leaf, block, Frags, none-left, frag}
 use Rattle.rules.specs.Encode.{field, encode-fields, frag-fields, frags-fields, leaf-fields, run-fields, runs-fields, anchor-tag, block-tag, encode}
 use Rattle.rules.specs.Answers.{changed}

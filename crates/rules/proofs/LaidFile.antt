@@ -1,14 +1,13 @@
 -- The file that layout leaves: of the same length, accepted, as the tree laid out.
 use mathlib.Core.Path.{_≡_, refl, sym, subst}
-use mathlib.Core.List.{List, [], _∷_, _++_}
-use mathlib.Core.Bool.{Bool, true, false, _&&_}
+use mathlib.Core.List.{List, _++_}
+use mathlib.Core.Bool.{Bool}
 use mathlib.Core.Option.{some}
-use Prim.Native.Nat.{ℕ, suc, _+_}
+use Prim.Native.Nat.{ℕ, _+_}
 use native.Mathlib.Omega.{arith}
-use lib.Dec.{leb}
 use lib.ListN.{length, length-append}
 use Rattle.rules.specs.Result.{accepted}
-use Rattle.rules.specs.Walk.{Fields, bytes, inside, end, in-fragment, in-block, in-text, in-anchor, holds, allowed, right-length, is-block, complete}
+use Rattle.rules.specs.Walk.{Fields, bytes, inside, end, in-fragment, in-block, holds, allowed, right-length, is-block, complete}
 use Rattle.rules.specs.Tree.{Leaf, text, anchor, space, force, if-block, Kind, indented, flexible, Frag, Frags}
 use Rattle.rules.specs.Layout.{layout}
 use Rattle.rules.specs.Encode.{field, encode-fields, frag-fields, frags-fields, leaf-fields, block-tag, encode}

@@ -1,6 +1,6 @@
 -- Naturality of the items of a page: those of a mapped tree are the mapped items, as long as newlines stand alike.
 use mathlib.Core.Path.{_≡_, refl, ap}
-use mathlib.Core.List.{List, [], _∷_, _++_, map}
+use mathlib.Core.List.{List, [], _∷_, map}
 use mathlib.Core.Option.{Option, none, some}
 use mathlib.Core.Bool.{Bool, true, false}
 use Prim.Native.Nat.{ℕ, _*_, _-_}
@@ -8,8 +8,8 @@ use lib.Dec.{ltb}
 use lib.ListN.{replicate}
 use Rattle.rules.specs.Bytes.{if_then_else_}
 use Rattle.rules.specs.Walk.{Fields}
-use Rattle.rules.specs.Tree.{Run, Leaf, text, anchor, space, force, if-block, Kind, indented, flexible, Frag, stop, leaf, block, Frags, none-left, frag}
-use Rattle.rules.specs.Lines.{LineOp, part, mark, empty-anchor, new-line, break, indent, unindent, Item, char, marked, open-anchor, close-anchor, copied, made, later, styled, text-ops, run-ops, runs-ops, leaf-ops, ops, indented-ops, inline-ops, Break, a-space, a-newline, Line, empty, indented-by, has-text, Machine, ignored, target, making, release, levels, spacing, item, broken, step, run, start, items}
+use Rattle.rules.specs.Tree.{Run, Leaf, text, anchor, space, force, if-block, indented, flexible, Frag, stop, leaf, block, Frags, none-left, frag}
+use Rattle.rules.specs.Lines.{LineOp, part, mark, empty-anchor, new-line, break, indent, unindent, Item, char, marked, open-anchor, close-anchor, copied, made, later, styled, text-ops, run-ops, runs-ops, leaf-ops, ops, indented-ops, inline-ops, Break, a-space, a-newline, Line, empty, indented-by, has-text, Machine, ignored, target, making, release, levels, spacing, item, broken, step, run, items}
 use Rattle.rules.proofs.Maps.{map-run, map-leaf, map-frag, map-frags, map-item, map-op}
 use Rattle.rules.proofs.Lists.{map-append}
 use Rattle.rules.proofs.LayoutMap.{old, parts-map}

@@ -1,5 +1,5 @@
 -- A tree, its operations and its page with each X replaced by what a function makes of it.
-use mathlib.Core.List.{List, [], _∷_, map}
+use mathlib.Core.List.{map}
 use Rattle.rules.specs.Tree.{Run, Leaf, text, anchor, space, force, if-block, Frag, stop, leaf, block, Frags, none-left, frag}
 use Rattle.rules.specs.Lines.{LineOp, part, mark, empty-anchor, new-line, break, indent, unindent, Mark, push, pop, open-anchor, close-anchor, Item, char, marked, Out, made, copied}
 

@@ -2,24 +2,23 @@
 use mathlib.Core.Path.{_≡_, refl, sym, _∙_, ap, ap₂, subst}
 use mathlib.Core.List.{List, [], _∷_, _++_, map}
 use mathlib.Core.Option.{Option, none, some}
-use mathlib.Core.Bool.{Bool, true, false, _&&_, _||_, and-eq-true-iff}
-use Prim.Native.Nat.{ℕ, zero, suc, _+_, _/_, _%_, _≤_, _<_}
+use mathlib.Core.Bool.{Bool, true, false, _||_, and-eq-true-iff}
+use Prim.Native.Nat.{ℕ, zero, suc, _+_, _≤_, _<_}
 use native.Mathlib.Omega.{arith}
 use lib.Dec.{leb, ltb, eqb}
-use lib.ListN.{length, getD, length-map, length-append, replicate}
-use borrow.Author.Tests.{leb-true, eqb-true, le-leb, lt-leb, ne-eqb}
+use lib.ListN.{length, length-map, length-append, replicate}
+use borrow.Author.Tests.{leb-true, eqb-true, le-leb, ne-eqb}
 use Rattle.rules.specs.Bytes.{if_then_else_, within, has}
-use Rattle.rules.specs.Utf8.{utf8, utf8-after, following, begun}
+use Rattle.rules.specs.Utf8.{utf8, utf8-after, following}
 use Rattle.rules.specs.Result.{accepted}
-use Rattle.rules.specs.Walk.{Fields, end, bytes, inside, Holder, in-fragment, in-block, in-text, in-anchor, in-styles, content, complete, tags, holds, allowed, check}
+use Rattle.rules.specs.Walk.{Fields, end, bytes, inside, Holder, in-fragment, in-block, in-text, in-anchor, in-styles, content, complete, tags, holds, allowed}
 use Rattle.rules.specs.Tree.{Run, Leaf, text, anchor, space, force, if-block, Kind, indented, flexible, Frag, stop, leaf, block, Frags, none-left, frag}
 use Rattle.rules.specs.Encode.{field, encode-fields, frag-fields, frags-fields, leaf-fields, run-fields, runs-fields, anchor-tag, block-tag, encode}
 use Rattle.rules.specs.Good.{Bytes, Stands, Good, GoodTree}
-use Rattle.rules.specs.Answers.{itself, tree}
+use Rattle.rules.specs.Answers.{tree}
 use Rattle.rules.specs.Mask.{is-text, in-texts, accepted-texts, text-places, mask-byte, mask-bytes, mask}
-use Rattle.rules.proofs.Chains.{no-path}
 use Rattle.rules.proofs.Accepted.{map-itself}
-use Rattle.rules.proofs.Typed.{Inner, inner-good, fields-of-run, fields-not}
+use Rattle.rules.proofs.Typed.{inner-good, fields-of-run, fields-not}
 use Rattle.rules.proofs.Files.{Read, tree-read, good-read}
 
 -- kept bytes are ASCII

@@ -1,6 +1,5 @@
 -- Nearest patterns: magnitudes rise with the pattern, nearest is a matter of the two neighbours, and no second pattern is nearest.
 use mathlib.Core.Path.{_≡_, refl, sym, ap, _∙_, subst}
-use mathlib.Core.Bool.{_&&_}
 use Prim.Native.Nat.{ℕ, zero, suc, _+_, _-_, _*_, _/_, _%_, _^_, _≤_, _<_}
 use native.Mathlib.Nat.{add-suc, zero-mul, le-trans, le-refl, le-of-lt, add-zero, suc-mul, mul-assoc, mul-le-mul-right, mul-lt-mul-of-pos-right, pow-suc, div-add-mod', mod-lt, add-mul}
 use native.Mathlib.Decide.{decLt}

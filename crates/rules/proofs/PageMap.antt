@@ -1,15 +1,15 @@
 -- Naturality of the pages: the plain page, HTML body and document of a mapped tree are the mapped ones; HTML asks that & and < stand alike too.
 use mathlib.Core.Path.{_≡_, refl, ap}
-use mathlib.Core.List.{List, [], _∷_, _++_, map}
+use mathlib.Core.List.{List, [], _∷_, map}
 use mathlib.Core.Bool.{Bool, true, false}
 use Prim.Native.Nat.{ℕ}
 use Rattle.rules.specs.Bytes.{ascii}
 use Rattle.rules.specs.Tree.{Frag}
-use Rattle.rules.specs.Lines.{Item, char, marked, Mark, push, pop, open-anchor, close-anchor, Out, made, copied, items}
+use Rattle.rules.specs.Lines.{Item, char, marked, Mark, push, pop, open-anchor, close-anchor, Out, made, copied}
 use Rattle.rules.specs.Plain.{chars, plain, fill}
 use Rattle.rules.specs.Html.{Escape, ampersand, less-than, as-it-is, makes, copies, escaped, id-attribute, mark-html, item-html, items-html, body, document}
 use Rattle.rules.proofs.Maps.{map-frag, map-out, map-item, map-mark}
-use Rattle.rules.proofs.Lists.{map-append, map-map}
+use Rattle.rules.proofs.Lists.{map-append}
 use Rattle.rules.proofs.LayoutMap.{old}
 use Rattle.rules.proofs.LinesMap.{items-map}
 

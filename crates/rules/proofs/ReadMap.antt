@@ -8,8 +8,8 @@ use lib.Dec.{eqb}
 use lib.ListN.{length, length-map}
 use Rattle.rules.specs.Bytes.{if_then_else_, has}
 use Rattle.rules.specs.Result.{Result, refused, accepted, _>>=_, _>>_}
-use Rattle.rules.specs.Walk.{Fields, end, bytes, inside, Holder, in-fragment, Field, Value, of-bytes, of-fields, put, front, valued, walk, check, tags, holds, is-block}
-use Rattle.rules.specs.Tree.{map-fields, Run, Leaf, text, anchor, space, force, if-block, Kind, Frag, leaf, block, Frags, frag, bytes-of, fields-of, or-empty, run-of, runs-of, anchor-of, frag-of, frags-of, read}
+use Rattle.rules.specs.Walk.{Fields, end, bytes, inside, Holder, in-fragment, Field, Value, of-bytes, of-fields, put, front, valued, walk, check, tags, holds}
+use Rattle.rules.specs.Tree.{map-fields, text, space, force, if-block, Kind, Frag, leaf, block, Frags, frag, bytes-of, fields-of, or-empty, run-of, runs-of, anchor-of, frag-of, frags-of, read}
 use Rattle.rules.specs.Good.{depth-in}
 use Rattle.rules.proofs.Maps.{map-run, map-leaf, map-frag, map-frags}
 use Rattle.rules.proofs.Lists.{map-map, take-map, drop-map, if-map}

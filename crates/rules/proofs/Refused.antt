@@ -1,9 +1,9 @@
 -- Refusals: a refused file's place is at most its length, and its number is one of the walk's.
-use mathlib.Core.Path.{_≡_, refl, sym, _∙_, ap}
+use mathlib.Core.Path.{_≡_, refl, sym}
 use mathlib.Core.List.{List, [], _∷_, map}
 use mathlib.Core.Option.{Option, none, some}
 use mathlib.Core.Bool.{Bool, true, false, _&&_, _||_, not}
-use Prim.Native.Nat.{ℕ, zero, suc, _+_, _-_, _*_, _^_, _≤_, _<_, zero-le}
+use Prim.Native.Nat.{ℕ, zero, suc, _+_, _-_, _*_, _^_, _≤_, _<_}
 use native.Mathlib.Nat.{le-refl}
 use native.Mathlib.Omega.{arith}
 use lib.Dec.{leb, eqb}
@@ -12,7 +12,7 @@ use borrow.Author.Tests.{leb-true, leb-false}
 use Rattle.rules.specs.Bytes.{if_then_else_, has, number}
 use Rattle.rules.specs.Utf8.{utf8}
 use Rattle.rules.specs.Result.{Result, refused, accepted, _>>=_, _>>_, need, sound}
-use Rattle.rules.specs.Walk.{Fields, end, Holder, in-fragment, in-block, in-text, in-anchor, in-styles, Field, Value, front, valued, walk, check, content, complete, tags, holds, right-opacity, right-size}
+use Rattle.rules.specs.Walk.{Fields, Holder, in-fragment, in-block, in-text, in-anchor, in-styles, Field, front, valued, walk, check, content, complete, tags, holds, right-opacity, right-size}
 use Rattle.rules.specs.Tree.{Frag, read, frag-of}
 use Rattle.rules.specs.Good.{depth-in}
 use Rattle.rules.specs.Answers.{itself, tree, check-answer, coded}

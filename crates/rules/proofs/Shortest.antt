@@ -2,16 +2,15 @@
 use mathlib.Core.Path.{_≡_, refl, sym, ap, _∙_, subst}
 use mathlib.Core.Bool.{Bool, true, false}
 use mathlib.Core.Option.{Option, none, some}
-use Prim.Native.Nat.{ℕ, zero, suc, _+_, _-_, _*_, _/_, _%_, _^_, _≤_, _<_, zero-le}
-use native.Mathlib.Nat.{one-le-pow, suc-mul, mul-le-mul-right, div-add-mod', mod-lt, pow-suc, mul-assoc, mul-right-comm, mul-comm, mul-div-cancel, le-refl, zero-add}
+use Prim.Native.Nat.{ℕ, zero, suc, _+_, _-_, _*_, _/_, _^_, _≤_, _<_, zero-le}
+use native.Mathlib.Nat.{one-le-pow, suc-mul, mul-le-mul-right, div-add-mod', mod-lt, pow-suc, mul-assoc, mul-right-comm, mul-div-cancel, zero-add}
 use native.Mathlib.Decide.{decLe, decLt}
 use native.Mathlib.Omega.{arith}
-use lib.Dec.{T, leb, ltb}
+use lib.Dec.{T}
 use lib.Pow.{pow-pos}
 use lib.Ieee.{Format, low}
 use borrow.Author.Tests.{leb-true, leb-false, ltb-true, ltb-false, le-leb, lt-ltb}
-use Rattle.rules.specs.Float.{apart, mag, infinite, ReadsBack, off, AtMost, Shortest, nearest, floor, prefers-lower, choice, at-places, Fraction, found, from-places, shortest}
-use Rattle.rules.proofs.Chains.{no-path}
+use Rattle.rules.specs.Float.{mag, infinite, ReadsBack, off, AtMost, Shortest, nearest, floor, prefers-lower, choice, at-places, Fraction, found, from-places, shortest}
 use Rattle.rules.proofs.Nearest.{Within, within-of, within-test, within→nearest, nearest→within, own-low, own-high}
 
 pub ten-pos : (p : ℕ) → 0 < 10 ^ p

@@ -12,7 +12,7 @@ use lib.ListN.{length}
 use borrow.Author.Tests.{leb-true, eqb-true, ne-eqb}
 use Rattle.rules.specs.Bytes.{if_then_else_, has}
 use Rattle.rules.specs.Walk.{Fields, end, bytes, inside, Holder, in-fragment, in-block, in-text, in-anchor, complete, tags, holds, allowed, right-length}
-use Rattle.rules.specs.Tree.{Run, Leaf, text, anchor, space, force, if-block, frag-of, frags-of, run-of, runs-of, anchor-of, map-fields, bytes-of, fields-of, or-empty}
+use Rattle.rules.specs.Tree.{Run, space, force, if-block, frag-of, frags-of, run-of, runs-of, anchor-of, map-fields, bytes-of, fields-of, or-empty}
 use Rattle.rules.specs.Encode.{frag-fields, frags-fields, leaf-fields, run-fields, runs-fields, anchor-tag, block-tag}
 use Rattle.rules.specs.Good.{depth-in, Good}
 use Rattle.rules.specs.Answers.{itself}

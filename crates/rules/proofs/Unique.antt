@@ -1,7 +1,7 @@
 -- No second outcome: an answer is fixed by what it says, so two outcomes that satisfy a public contract are equal, the lent bytes with them.
 use mathlib.Core.Path.{_≡_, refl, sym, _∙_, ap}
 use mathlib.Core.List.{List, [], _∷_}
-use Prim.Native.Nat.{ℕ, suc, _-_}
+use Prim.Native.Nat.{ℕ, _-_}
 use lib.ListN.{getD}
 use Rattle.rules.specs.declared.Refusal.{Refusal}
 use Rattle.rules.specs.declared.Refusal.the-variants.{TooLong, TooWide, Cut, WrongTag, WrongLength, TooDeep, NotUtf8, BadStyle, QuoteInAnchor, PageTooShort}

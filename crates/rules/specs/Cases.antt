@@ -1,7 +1,7 @@
 -- Document 01's checked examples as a list of cases: what is asked, of which file, and what is right.
-use mathlib.Core.List.{List, [], _∷_, _++_}
+use mathlib.Core.List.{List, [], _∷_}
 use mathlib.Core.Option.{Option, none, some}
-use mathlib.Core.Bool.{Bool, true, false, _&&_}
+use mathlib.Core.Bool.{_&&_}
 use Prim.Native.Nat.{ℕ, zero, suc, _+_, _*_, _-_}
 use Prim.Native.String.{String}
 use lib.Dec.{leb}
@@ -10,7 +10,7 @@ use Rattle.rules.specs.Bytes.{if_then_else_, ascii}
 use Rattle.rules.specs.Result.{Result, refused, accepted, _>>=_}
 use Rattle.rules.specs.Encode.{encode, field}
 use Rattle.rules.specs.Sizes.{em-text, opacity-text}
-use Rattle.rules.specs.Answers.{tree, laid-out, plain-text, body-text, document-text, check-answer}
+use Rattle.rules.specs.Answers.{laid-out, plain-text, body-text, document-text, check-answer}
 
 -- ---- files in hexadecimal digits, two to a byte; other characters are passed over
 

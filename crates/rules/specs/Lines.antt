@@ -7,7 +7,7 @@ use lib.Dec.{leb, ltb, eqb}
 use lib.ListN.{replicate}
 use Rattle.rules.specs.Bytes.{if_then_else_}
 use Rattle.rules.specs.Walk.{Fields}
-use Rattle.rules.specs.Tree.{Styles, styles-of, Run, Leaf, text, anchor, space, force, if-block, Kind, indented, flexible, Frag, stop, leaf, block, Frags, none-left, frag}
+use Rattle.rules.specs.Tree.{Styles, styles-of, Run, Leaf, text, anchor, space, force, if-block, indented, flexible, Frag, stop, leaf, block, Frags, none-left, frag}
 use Rattle.rules.specs.Layout.{parts}
 
 -- ---- line operations

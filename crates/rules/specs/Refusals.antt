@@ -1,9 +1,9 @@
 -- Refused files: at least one for each number, and one for each conflict that document 01's order settles, with number and place.
-use mathlib.Core.List.{List, [], _∷_, _++_}
+use mathlib.Core.List.{List, [], _∷_}
 use Prim.Native.Nat.{ℕ, zero, suc}
 use Prim.Native.String.{String}
 use lib.ListN.{replicate}
-use Rattle.rules.specs.Result.{Result, refused}
+use Rattle.rules.specs.Result.{Result}
 use Rattle.rules.specs.Encode.{field}
 use Rattle.rules.specs.Answers.{check-answer, layout-outcome, plain-outcome, body-outcome, document-outcome}
 use Rattle.rules.specs.Cases.{unhex, nested}

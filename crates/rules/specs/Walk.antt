@@ -2,13 +2,13 @@
 -- X is what stands for a byte of the file: the byte itself, or its place in the file.
 use mathlib.Core.List.{List, [], _∷_, map}
 use mathlib.Core.Option.{Option, none, some}
-use mathlib.Core.Bool.{Bool, true, false, _&&_, _||_, not}
+use mathlib.Core.Bool.{Bool, true, _&&_, _||_, not}
 use Prim.Native.Nat.{ℕ, zero, suc, _+_, _-_}
 use lib.Dec.{leb, ltb, eqb}
 use lib.ListN.{length, take, drop}
 use Rattle.rules.specs.Bytes.{if_then_else_, within, has, number}
 use Rattle.rules.specs.Utf8.{utf8}
-use Rattle.rules.specs.Result.{Result, refused, accepted, _>>=_, _>>_, need, sound}
+use Rattle.rules.specs.Result.{Result, accepted, _>>=_, _>>_, need, sound}
 
 -- ---- the table of fields
 

@@ -1,14 +1,13 @@
 -- The style read from the bytes of good fields is the one that the rules read from those fields.
 use mathlib.Core.Path.{_≡_, refl, sym, ap, _∙_}
-use mathlib.Core.List.{List, [], _∷_, _++_, append-assoc}
+use mathlib.Core.List.{List, [], _++_, append-assoc}
 use mathlib.Core.Option.{Option, none, some, Option·map}
 use mathlib.Core.Bool.{Bool, true, false, _&&_, _||_, and-eq-true-iff, or-false, or-assoc, or-comm}
-use Prim.Native.Nat.{ℕ, zero, suc, _+_, _*_, _-_, _/_, _%_, _≤_, _<_}
+use Prim.Native.Nat.{ℕ, zero, suc, _+_, _-_, _≤_, _<_}
 use native.Mathlib.Omega.{arith}
 use lib.Dec.{leb, ltb, eqb}
-use lib.ListN.{length, take, drop, length-append}
-use lib.Seq.{getD-append-seam, getD-append-add, drop-append-add, take-at}
-use borrow.Author.Tests.{leb-true, ltb-true, eqb-true, ne-eqb, le-leb, lt-leb}
+use lib.ListN.{length, length-append}
+use borrow.Author.Tests.{leb-true, ltb-true, eqb-true, ne-eqb, lt-leb}
 use Rattle.rules.specs.Bytes.{if_then_else_, within, has, number}
 use Rattle.rules.specs.Result.{accepted}
 use Rattle.rules.specs.Walk.{Fields, end, bytes, inside, Holder, in-styles, allowed, holds, content, right-length, right-opacity, tags, walk}
@@ -17,8 +16,8 @@ use Rattle.rules.specs.Encode.{field, encode-fields}
 use Rattle.rules.specs.Good.{Bytes, Good}
 use Rattle.rules.specs.Answers.{itself}
 use Rattle.rules.proofs.Accepted.{walk-good}
-use Rattle.fields.specs.declared.Field.the-variants.{Whole}
 use Rattle.fields.specs.FieldAt.{field-at}
+use Rattle.fields.proofs.Encoded.{field-here, value-here}
 use Rattle.styles.specs.StylesIn.{no-styles, right-value, put-part, with-field, past-field, styles-from, styles-in}
 
 -- ---- the fields of a good 16
@@ -73,28 +72,6 @@ counts t v l c = go (eqb t 33) refl
         let n : t ≡ 33 = eqb-true t 33 e in
         rw (l, sound (right-opacity (number v)) (rw n at c))
     go false e = l
-
--- ---- one field in front of others
-
-module _ (a : List ℕ) (t : ℕ) (v b : List ℕ) where
-  length-here : length (a ++ (field t v ++ b)) ≡ length a + 3 + length v + length b
-  unfolding field
-  length-here = omega (arith, length-append a (field t v ++ b), length-append v b)
-
-  -- it is whole
-  field-here : length v < 65_536 → field-at (a ++ (field t v ++ b)) (length a) ≡ Whole t (length a + 3) (length a + 3 + length v)
-  unfolding field-at field
-  field-here l =
-      let s : List ℕ = t ∷ (length v / 256) ∷ (length v % 256) ∷ (v ++ b) in
-      let n : length v / 256 * 256 + length v % 256 ≡ length v = omega arith in
-      let h₁ : leb (length a + 3) (length (a ++ s)) ≡ true = le-leb (length a + 3) (length (a ++ s)) (omega (arith, length-here)) in
-      let h₂ : leb (length a + 3 + length v) (length (a ++ s)) ≡ true = le-leb (length a + 3 + length v) (length (a ++ s)) (omega (arith, length-here)) in
-      rw (getD-append-seam a t, getD-append-add a s 1 0, getD-append-add a s 2 0, n, h₁, h₂)
-
-  -- its value
-  value-here : take (length a + 3 + length v - (length a + 3)) (drop (length a + 3) (a ++ (field t v ++ b))) ≡ v
-  unfolding field
-  value-here = rw (drop-append-add a (field t v ++ b) 3) (take-at v b (length a + 3 + length v - (length a + 3)) (omega arith))
 
 -- ---- all of them
 

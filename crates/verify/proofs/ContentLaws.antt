@@ -1,15 +1,15 @@
 -- The content of a value of bytes, by its tag and by what the tests say.
-use mathlib.Core.Path.{_≡_, refl, sym, _∙_, ap}
+use mathlib.Core.Path.{_≡_, refl, sym, _∙_}
 use mathlib.Core.List.{List, [], _∷_}
-use mathlib.Core.Bool.{Bool, true, false, _&&_, _||_}
-use Prim.Native.Nat.{ℕ, zero, suc, _+_, _*_, _≤_, _<_}
+use mathlib.Core.Bool.{Bool, true, false}
+use Prim.Native.Nat.{ℕ, _+_, _*_, _≤_, _<_}
 use native.Mathlib.Omega.{arith}
-use lib.Dec.{leb, eqb}
+use lib.Dec.{leb}
 use lib.ListN.{length, getD}
 use borrow.Author.Tests.{le-leb, lt-leb, ne-eqb, eq-eqb, eqb-true}
-use Rattle.rules.specs.Bytes.{if_then_else_, has, number, number-from}
+use Rattle.rules.specs.Bytes.{has, number, number-from}
 use Rattle.rules.specs.Utf8.{utf8}
-use Rattle.rules.specs.Result.{Result, refused, accepted, sound}
+use Rattle.rules.specs.Result.{refused, accepted, sound}
 use Rattle.rules.specs.Walk.{content, right-length, right-opacity, right-size}
 use Rattle.rules.proofs.Chains.{no-path}
 use Rattle.utf8.specs.Answer.{sound-if, utf8-answer}

@@ -1,16 +1,12 @@
 -- The depth inside a field, and where a field may stand.
-use mathlib.Core.Path.{_≡_, refl, sym, _∙_}
-use mathlib.Core.List.{List}
-use mathlib.Core.Bool.{Bool, true, false, _&&_}
-use Prim.Native.Nat.{ℕ, suc, _+_, _-_, _≤_, _<_, _^_}
+use mathlib.Core.Path.{_≡_}
+use mathlib.Core.Bool.{true, false, _&&_}
+use Prim.Native.Nat.{ℕ, _+_, _-_, _<_}
 use native.Mathlib.Omega.{arith}
 use lib.Dec.{leb}
-use lib.ListN.{length, take, drop}
 use borrow.Author.Tests.{leb-false}
-use Rattle.rules.specs.Bytes.{if_then_else_}
-use Rattle.rules.specs.Walk.{Holder, allowed, right-length, is-block}
+use Rattle.rules.specs.Walk.{is-block}
 use Rattle.rules.specs.Good.{depth-in}
-use Rattle.rules.proofs.Chains.{no-path}
 
 -- a block that is not too deep stands inside fewer than 32
 pub shallow : (t d : ℕ) → is-block t ≡ true → (is-block t && leb 32 d) ≡ false → d < 32

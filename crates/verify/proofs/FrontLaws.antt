@@ -2,9 +2,8 @@
 use mathlib.Core.Path.{_≡_, refl, sym, _∙_, ap, subst}
 use mathlib.Core.List.{List, [], _∷_, map}
 use mathlib.Core.Bool.{Bool, true, false, _&&_, not}
-use Prim.Native.Nat.{ℕ, suc, _+_, _*_, _-_, _≤_, _<_}
+use Prim.Native.Nat.{ℕ, suc, _+_, _-_, _≤_, _<_}
 use native.Mathlib.Omega.{arith}
-use native.Mathlib.Numerals.{add-one}
 use lib.Dec.{leb}
 use lib.ListN.{length, getD, take, drop, length-drop}
 use lib.Seq.{drop-cons, drop-drop}
@@ -17,7 +16,7 @@ use Rattle.rules.proofs.Accepted.{number-two}
 use Rattle.fields.specs.FieldAt.{field-at, length-at}
 use Rattle.fields.specs.declared.Field as F
 use Rattle.verify.specs.declared.front.Front as Front
-use Rattle.verify.specs.Fronts.{past-answer, header-answer, front-answer, Fronted}
+use Rattle.verify.specs.Fronts.{past-answer, header-answer, front-answer}
 
 -- what a front says of the bytes s: the field, its value and what follows, or the refusal
 unfoldable pub said-front : List ℕ → Front.Front → Result (Field ℕ)

@@ -5,7 +5,7 @@ use mathlib.Core.Bool.{Bool, true, false, _&&_, _||_, not}
 use Prim.Native.Nat.{ℕ}
 use lib.Dec.{eqb}
 use Rattle.rules.specs.Bytes.{if_then_else_, has}
-use Rattle.rules.specs.Result.{Result, refused, accepted, sound}
+use Rattle.rules.specs.Result.{refused, accepted, sound}
 use Rattle.rules.specs.Walk.{Holder, in-fragment, in-block, in-text, in-anchor, in-styles, complete}
 use Rattle.verify.specs.declared.seen.Seen.{Seen}
 use Rattle.verify.specs.Seeing.{nothing-seen, seen-with, Sees, complete-seen}

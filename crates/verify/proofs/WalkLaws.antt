@@ -1,26 +1,24 @@
 -- The walk, one field at a time, as the loop over a value's fields takes it.
-use mathlib.Core.Path.{_≡_, refl, sym, _∙_, ap, subst}
+use mathlib.Core.Path.{_≡_, refl, sym, _∙_, ap}
 use mathlib.Core.List.{List, [], _∷_, _++_, append-assoc}
 use mathlib.Core.Option.{Option, none, some}
-use Prim.Native.Nat.{ℕ, zero, suc, _+_, _-_, _≤_, _<_, _^_}
+use Prim.Native.Nat.{ℕ, zero, suc, _+_, _-_, _≤_, _<_}
 use native.Mathlib.Nat.{le-refl, add-zero}
 use native.Mathlib.Omega.{arith}
-use lib.ListN.{length, getD, take, drop, length-take, length-drop, drop-of-length-le}
+use lib.ListN.{length, take, drop, length-take, length-drop, drop-of-length-le}
 use lib.Seq.{drop-cons}
 use Rattle.rules.specs.declared.Refusal.{Refusal}
 use Rattle.rules.specs.declared.Refusal.the-variants.{TooLong, TooWide, Cut, WrongTag, WrongLength, TooDeep, NotUtf8, BadStyle, QuoteInAnchor, PageTooShort}
-use Rattle.rules.specs.Bytes.{if_then_else_}
 use Rattle.rules.specs.Result.{Result, refused, accepted, _>>=_, _>>_, sound, refusal}
-use Rattle.rules.specs.Walk.{Holder, Fields, end, Field, Value, of-bytes, of-fields, put, front, valued, walk, holds, complete, tags, is-block}
+use Rattle.rules.specs.Walk.{Holder, Fields, end, Field, Value, of-bytes, of-fields, put, front, valued, walk, holds, complete, tags}
 use Rattle.rules.specs.Good.{depth-in}
 use Rattle.rules.specs.Answers.{itself}
 use Rattle.rules.proofs.Chains.{no-path}
 use Rattle.rules.proofs.Refused.{front-fits}
-use Rattle.fields.specs.FieldAt.{field-at}
 use Rattle.verify.specs.declared.front.Front as Front
 use Rattle.verify.specs.Said.{done}
-use Rattle.verify.specs.Fronts.{front-answer, Fronted}
-use Rattle.verify.specs.Walked.{fields-verdict, value-verdict, Room}
+use Rattle.verify.specs.Fronts.{Fronted}
+use Rattle.verify.specs.Walked.{fields-verdict, value-verdict}
 use Rattle.verify.proofs.FrontLaws.{said-front, front-of, front-said, Ends}
 
 -- ---- refusals, and chains

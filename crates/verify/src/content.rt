@@ -7,7 +7,7 @@ use utf8::check_utf8;
 use utf8::has_quote;
 ghost use mathlib.Core.Path.{_≡_};
 ghost use mathlib.Core.Bool.{true};
-ghost use Prim.Native.Nat.{_<_, _^_};
+ghost use Prim.Native.Nat.{_<_};
 ghost use lib.ListN.{length};
 ghost use Rattle.rules.specs.Bytes.{number};
 ghost use Rattle.rules.specs.Result.{sound};
