@@ -10,6 +10,10 @@ use Rattle.rules.specs.Layout.{Shape, Block, _⊕_, room}
 use Rattle.parts.specs.Walk.{Is}
 use Rattle.layout.specs.LaidIn.{Laid, decided, fragments-in, node-in, nodes-in, flex-in, fragment-in}
 
+-- what says the same is the same
+pub says : {x : Laid × List ℕ} {l l′ : Laid} {s : List ℕ} → l ≡ l′ → Is x l′ s → Is x l s
+says e h = record { value = e ∙ h .value; bytes = h .bytes }
+
 module _ (left i b : ℕ) (so-far : Shape) (s : List ℕ) where
   pub no-depth : left ≡ 0 → Is (flex-in left i b so-far s) (so-far, 0) s
   unfolding flex-in

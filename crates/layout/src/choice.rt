@@ -27,6 +27,12 @@ pub struct Laid {
     pub changed: u16,
 }
 
+pub fn laid_out(layout: ApproxLayout, changed: u16) -> Laid
+    ensures { λ r. ⌜ said r ≡ (shape layout, changed) ⌝ }
+{
+    Laid { layout, changed }
+}
+
 pub fn larger(a: u16, b: u16) -> u16
     ensures { λ r. ⌜ r ≡ max a b ⌝ }
 {

@@ -2,6 +2,7 @@
 use crate::choice::Laid;
 use crate::choice::MaxWidths;
 use crate::choice::decide;
+use crate::choice::laid_out;
 use crate::choice::larger;
 use crate::choice::room;
 use crate::stretch::ahead;
@@ -27,16 +28,10 @@ fn approx_flex_layout(s: &mut [u8], widths: MaxWidths, so_far: ApproxLayout, lef
     ensures { λ r. ⌜ Is (flex-in left (widths .inline) (widths .block) (shape «so_far») (now (s .entry))) (said r) (now (s .exit)) ⌝ }
 {
     if left == 0 {
-        return Laid {
-            layout: so_far,
-            changed: 0,
-        };
+        return laid_out(so_far, 0);
     }
     if s.len() == 0 {
-        return Laid {
-            layout: so_far,
-            changed: 0,
-        };
+        return laid_out(so_far, 0);
     }
     let tag = s[0];
     let block = saturating_sub(widths.block, INDENT);
@@ -49,16 +44,10 @@ fn approx_flex_layout(s: &mut [u8], widths: MaxWidths, so_far: ApproxLayout, lef
             },
             left - 1,
         );
-        return Laid {
-            layout: append(so_far, block_or_mixed(0, 0)),
-            changed: l.changed,
-        };
+        return laid_out(append(so_far, block_or_mixed(0, 0)), l.changed);
     }
     if tag != 4 {
-        return Laid {
-            layout: so_far,
-            changed: 0,
-        };
+        return laid_out(so_far, 0);
     }
     let inline_max = room(widths, so_far);
     let l = approx_fragments_layout(

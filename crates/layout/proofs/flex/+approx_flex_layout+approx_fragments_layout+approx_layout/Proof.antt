@@ -6,14 +6,14 @@ use mathlib.Core.Path.{_∙_}
 use Prim.Native.Nat.{ℕ, _+_, _*_, _-_, _<_}
 use borrow.Fn.Kinds.{In}
 use borrow.Fn.PlainCycle.{Measures, is, falls, and}
-use Rattle.layout.proofs.LoopLaws.{end-stands, fragments-start, fragment-more, nodes-none, nodes-start, behind, node-more}
 use Rattle.rules.specs.Layout.{Inline}
 use Rattle.shapes.specs.Shapes.{shape}
 use Rattle.parts.proofs.Spans.{end-after, end-within}
 use Rattle.parts.proofs.Loops.{Part, more, ends}
 use Rattle.layout.specs.Said.{said}
 use Rattle.layout.specs.LaidIn.{ahead-in, with-fragment, fragments-in, with-node, nodes-in, flex-in, fragment-in}
-use Rattle.layout.proofs.NodeLaws.{no-depth, no-bytes, other-tag, tag-three, tag-four}
+use Rattle.layout.proofs.NodeLaws.{says, no-depth, no-bytes, other-tag, tag-three, tag-four}
+use Rattle.layout.proofs.LoopLaws.{end-stands, fragments-start, fragment-more, nodes-none, nodes-start, behind, node-more}
 use Rattle.layout.proofs.flex.approx_flex_layout.Reads as approx-flex-layout
 use Rattle.layout.proofs.flex.approx_flex_layout.Kinds as approx-flex-layout-kinds
 use Rattle.layout.proofs.flex.+approx_flex_layout+approx_fragments_layout+approx_layout.Lts-approx_flex_layout as approx-flex-layout-lts
@@ -24,6 +24,7 @@ use Rattle.layout.proofs.flex.approx_layout.Reads as approx-layout
 use Rattle.layout.proofs.flex.approx_layout.Kinds as approx-layout-kinds
 use Rattle.layout.proofs.flex.+approx_flex_layout+approx_fragments_layout+approx_layout.Lts-approx_layout as approx-layout-lts
 use Rattle.layout.proofs.choice.decide.Reads as decide-reads
+use Rattle.layout.proofs.choice.laid_out.Reads as laid-out-reads
 use Rattle.layout.proofs.choice.larger.Reads as larger-reads
 use Rattle.layout.proofs.choice.room.Reads as room-reads
 use Rattle.layout.proofs.stretch.ahead.Reads as ahead-reads
@@ -92,15 +93,19 @@ approx-layout-below t =
     approx-layout.Pre
 
 abbrev approx-flex-layout-given : ℕ → approx-flex-layout-lts.Claims
-approx-flex-layout-given t = (saturating-sub-reads.Asked, saturating-sub-reads.Learnt, approx-fragments-layout-below t, approx-fragments-layout.Post, block-or-mixed-reads.Asked, block-or-mixed-reads.Learnt, append-reads.Asked, append-reads.Learnt, room-reads.Asked, room-reads.Learnt, larger-reads.Asked, larger-reads.Learnt, decide-reads.Asked, decide-reads.Learnt)
+approx-flex-layout-given t = (laid-out-reads.Asked, laid-out-reads.Learnt, saturating-sub-reads.Asked, saturating-sub-reads.Learnt, approx-fragments-layout-below t, approx-fragments-layout.Post, block-or-mixed-reads.Asked, block-or-mixed-reads.Learnt, append-reads.Asked, append-reads.Learnt, room-reads.Asked, room-reads.Learnt, larger-reads.Asked, larger-reads.Learnt, decide-reads.Asked, decide-reads.Learnt)
+
+approx-flex-layout-laid-out-requires : (t : ℕ) → approx-flex-layout-lts.Need-laid-out-requires (approx-flex-layout-given t) (approx-flex-layout-at t) approx-flex-layout.Post
+approx-flex-layout-laid-out-requires t c κs = search needs
 
 approx-flex-layout-returns : (t : ℕ) → approx-flex-layout-lts.Need-returns (approx-flex-layout-given t) (approx-flex-layout-at t) approx-flex-layout.Post
-unfolding said
-approx-flex-layout-returns t c = no-depth _ _ _ _ _ (c .if1 .taken)
+approx-flex-layout-returns t c = says (c .laid-out .ensures) (no-depth _ _ _ _ _ (c .before .if1 .taken))
+
+approx-flex-layout-laid-out-requires-2 : (t : ℕ) → approx-flex-layout-lts.Need-laid-out-requires-2 (approx-flex-layout-given t) (approx-flex-layout-at t) approx-flex-layout.Post
+approx-flex-layout-laid-out-requires-2 t c κs = search needs
 
 approx-flex-layout-returns-2 : (t : ℕ) → approx-flex-layout-lts.Need-returns-2 (approx-flex-layout-given t) (approx-flex-layout-at t) approx-flex-layout.Post
-unfolding said
-approx-flex-layout-returns-2 t c = no-bytes _ _ _ _ _ (c .if2 .taken)
+approx-flex-layout-returns-2 t c = says (c .laid-out2 .ensures) (no-bytes _ _ _ _ _ (c .before .if2 .taken))
 
 approx-flex-layout-slice-read-tag : (t : ℕ) → approx-flex-layout-lts.Need-slice-read-tag (approx-flex-layout-given t) (approx-flex-layout-at t) approx-flex-layout.Post
 approx-flex-layout-slice-read-tag t c = omega arith
@@ -120,16 +125,21 @@ approx-flex-layout-block-or-mixed-requires t c κs = search needs
 approx-flex-layout-append-requires : (t : ℕ) → approx-flex-layout-lts.Need-append-requires (approx-flex-layout-given t) (approx-flex-layout-at t) approx-flex-layout.Post
 approx-flex-layout-append-requires t c κs = search needs
 
+approx-flex-layout-laid-out-requires-3 : (t : ℕ) → approx-flex-layout-lts.Need-laid-out-requires-3 (approx-flex-layout-given t) (approx-flex-layout-at t) approx-flex-layout.Post
+approx-flex-layout-laid-out-requires-3 t c κs = search needs
+
 approx-flex-layout-same-length : (t : ℕ) → approx-flex-layout-lts.Need-same-length (approx-flex-layout-given t) (approx-flex-layout-at t) approx-flex-layout.Post
-approx-flex-layout-same-length t c = c .before .before .before .before .approx-fragments-layout .kept .0
+approx-flex-layout-same-length t c = c .before .before .before .before .before .approx-fragments-layout .kept .0
 
 approx-flex-layout-returns-3 : (t : ℕ) → approx-flex-layout-lts.Need-returns-3 (approx-flex-layout-given t) (approx-flex-layout-at t) approx-flex-layout.Post
 unfolding said
-approx-flex-layout-returns-3 t c = tag-three _ _ _ _ _ (c .before .before .before .before .before .before .if3 .taken) (c .before .before .before .before .before .before .before .before .before .before .if1 .left) (c .before .before .before .before .before .before .before .saturating-sub .ensures) (c .before .before .before .before .approx-fragments-layout .ensures) (c .before .block-or-mixed .ensures) (c .append .ensures)
+approx-flex-layout-returns-3 t c = says (c .laid-out3 .ensures) (tag-three _ _ _ _ _ (c .before .before .before .before .before .before .before .if3 .taken) (c .before .before .before .before .before .before .before .before .before .before .before .if1 .left) (c .before .before .before .before .before .before .before .before .saturating-sub .ensures) (c .before .before .before .before .before .approx-fragments-layout .ensures) (c .before .before .block-or-mixed .ensures) (c .before .append .ensures))
+
+approx-flex-layout-laid-out-requires-4 : (t : ℕ) → approx-flex-layout-lts.Need-laid-out-requires-4 (approx-flex-layout-given t) (approx-flex-layout-at t) approx-flex-layout.Post
+approx-flex-layout-laid-out-requires-4 t c κs = search needs
 
 approx-flex-layout-returns-4 : (t : ℕ) → approx-flex-layout-lts.Need-returns-4 (approx-flex-layout-given t) (approx-flex-layout-at t) approx-flex-layout.Post
-unfolding said
-approx-flex-layout-returns-4 t c = other-tag _ _ _ _ _ (c .before .if3 .left) (c .if4 .taken)
+approx-flex-layout-returns-4 t c = says (c .laid-out4 .ensures) (other-tag _ _ _ _ _ (c .before .before .if3 .left) (c .before .if4 .taken))
 
 approx-flex-layout-room-requires : (t : ℕ) → approx-flex-layout-lts.Need-room-requires (approx-flex-layout-given t) (approx-flex-layout-at t) approx-flex-layout.Post
 approx-flex-layout-room-requires t c κs = search needs
@@ -259,10 +269,10 @@ abbrev approx-layout-given : ℕ → approx-layout-lts.Claims
 approx-layout-given t = (inline-reads.Asked, inline-reads.Learnt, ahead-reads.Asked, ahead-reads.Learnt, field-end-reads.Asked, field-end-reads.Learnt, approx-rigid-layout-reads.Asked, approx-rigid-layout-reads.Learnt, approx-flex-layout-below t, approx-flex-layout.Post, past-reads.Asked, past-reads.Learnt, saturating-add-reads.Asked, saturating-add-reads.Learnt)
 
 abbrev approx-layout-Inv-loop : approx-layout-lts.InvT-loop
-approx-layout-Inv-loop s₀ from widths left layout₀ changed₀ at₀ s layout changed at = Part (with-node (flex-in left (widths .inline) (widths .block))) from (ahead-in (length (drop from s₀)) (Inline 0 0) (drop from s₀), 0) s₀ at (shape layout, changed) s
+approx-layout-Inv-loop s₀ from widths left layout₀ changed₀ node₀ s layout changed node = Part (with-node (flex-in left (widths .inline) (widths .block))) from (ahead-in (length (drop from s₀)) (Inline 0 0) (drop from s₀), 0) s₀ node (shape layout, changed) s
 
 abbrev approx-layout-μ-loop : approx-layout-lts.MeasureT-loop
-approx-layout-μ-loop s₀ from widths left layout₀ changed₀ at₀ s layout changed at = length s₀ - at
+approx-layout-μ-loop s₀ from widths left layout₀ changed₀ node₀ s layout changed node = length s₀ - node
 
 approx-layout-inline-requires : (t : ℕ) → approx-layout-lts.Need-inline-requires (approx-layout-given t) (approx-layout-at t) approx-layout.Post approx-layout-Inv-loop approx-layout-μ-loop
 approx-layout-inline-requires t c κs = search needs
@@ -354,7 +364,9 @@ pub +approx-flex-layout+approx-fragments-layout+approx-layout-spec : {M : Type 1
     (λ t. approx-flex-layout-lts.spec (approx-flex-layout-given t)
     (approx-flex-layout-at t)
     approx-flex-layout.Post
+    (approx-flex-layout-laid-out-requires t)
     (approx-flex-layout-returns t)
+    (approx-flex-layout-laid-out-requires-2 t)
     (approx-flex-layout-returns-2 t)
     (approx-flex-layout-slice-read-tag t)
     (approx-flex-layout-saturating-sub-requires t)
@@ -362,8 +374,10 @@ pub +approx-flex-layout+approx-fragments-layout+approx-layout-spec : {M : Type 1
     (approx-flex-layout-approx-fragments-layout-requires t)
     (approx-flex-layout-block-or-mixed-requires t)
     (approx-flex-layout-append-requires t)
+    (approx-flex-layout-laid-out-requires-3 t)
     (approx-flex-layout-same-length t)
     (approx-flex-layout-returns-3 t)
+    (approx-flex-layout-laid-out-requires-4 t)
     (approx-flex-layout-returns-4 t)
     (approx-flex-layout-room-requires t)
     (approx-flex-layout-larger-requires t)
