@@ -3,15 +3,14 @@ use crate::choice::MaxWidths;
 use crate::flex::approx_layout;
 use rules::Answer;
 use rules::Refusal;
+use verify::walk::MAX_FILE;
 use verify::walk::check;
 ghost use mathlib.Core.Path.{_≡_};
 ghost use Prim.Native.Nat.{_*_, _≤_};
 ghost use Rattle.rules.specs.Result as Result;
 ghost use Rattle.rules.specs.Answers.{layout-outcome};
 
-// The most bytes of a file, and the widest line.
-const MAX_FILE: usize = 60000;
-
+// The widest line.
 const MAX_WIDTH: usize = 6553;
 
 // The blocks that may stand inside each other.

@@ -81,11 +81,14 @@ fn check_fields(s: &[u8], h: Holder, depth: usize, base: usize, place: usize) ->
     complete(h, seen, place)
 }
 
-// The file check: at most 60,000 bytes, then the walk.
+// The most bytes of a file.
+pub const MAX_FILE: usize = 60000;
+
+// The file check: at most so many bytes, then the walk.
 pub fn check(file: &[u8]) -> Answer
     ensures { λ r. ⌜ said r ≡ check-answer (now (file .entry)) ⌝ }
 {
-    if 60000 < file.len() {
+    if MAX_FILE < file.len() {
         return Answer::Refused(Refusal::TooLong);
     }
     let c = check_fields(file, Holder::Fragment, 0, 0, 0);
