@@ -16,10 +16,10 @@ def run(checks):
     for block in notations:
         status, data, error = frag("build", "-", given=block.encode("utf-8"))
         checks.same("NOTATION.md: %.40r" % block, (status, data != b"", error), (0, True, ""))
-    sessions = "".join(block for block in blocks if block.startswith("$ ")).split("$ frag ")[1:]
-    checks.same("commands in NOTATION.md", len(sessions), COMMANDS)
-    for session in sessions:
-        shown(checks, *session.split("\n", 1))
+    examples = "".join(block for block in blocks if block.startswith("$ ")).split("$ frag ")[1:]
+    checks.same("commands in NOTATION.md", len(examples), COMMANDS)
+    for example in examples:
+        shown(checks, *example.split("\n", 1))
 
 
 def shown(checks, line, expected):
