@@ -24,6 +24,10 @@ uint64_t hazomeny_check(const uint8_t *file, size_t length);
 /* Layout in place, at a width in columns: its count is the tags that changed from 4 to 3. A refusal changes no byte. */
 uint64_t hazomeny_layout(uint8_t *file, size_t length, size_t width);
 
+/* The plain page of a file, laid out or not: its count is the page's length, and that many bytes are written from the page's start. A page
+ * that is too short is refused by 10 with the bytes needed, so that `room` 0 measures. A refusal changes no byte. */
+uint64_t hazomeny_plain(const uint8_t *file, size_t length, uint8_t *page, size_t room);
+
 #ifdef __cplusplus
 }
 #endif

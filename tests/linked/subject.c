@@ -1,10 +1,14 @@
 /* Answers a request batch with the functions of libhazomeny.a, for `oracle compare`: requests on standard input, responses on
- * standard output (oracle/src/wire.rs has both formats). Each file is lent from a buffer of just its length. */
+ * standard output (oracle/src/wire.rs has both formats). Each file and each page is lent from a buffer of just its length. */
 #include "hazomeny.h"
 #include <stdio.h>
 #include <stdlib.h>
+#include <string.h>
 
-enum { HEADER = 11, CHECK = 0, LAYOUT = 1 };
+enum { HEADER = 11, CHECK = 0, LAYOUT = 1, PLAIN = 2 };
+
+/* What a page is lent filled with: of it a refusal changes nothing, and a page only what it covers. */
+enum { PATTERN = 0xa5 };
 
 static void stop(const char *why) {
     fprintf(stderr, "subject: %s\n", why);
@@ -33,11 +37,21 @@ static void respond(uint64_t answer, const uint8_t *lent, size_t length) {
     fwrite(lent, 1, length, stdout);
 }
 
+typedef uint64_t (*page_entry)(const uint8_t *file, size_t length, uint8_t *page, size_t room);
+
+static void answer_page(page_entry entry, const uint8_t *file, size_t length, size_t room) {
+    uint8_t *page = room_for(room);
+    memset(page, PATTERN, room);
+    respond(entry(file, length, page, room), page, room);
+    free(page);
+}
+
 static void answer(const uint8_t *header, uint8_t *file, size_t length) {
-    size_t width = (size_t)header[1] << 8 | header[2];
+    size_t width = (size_t)header[1] << 8 | header[2], room = read_number(header + 3);
     switch (header[0]) {
     case CHECK: respond(hazomeny_check(file, length), file, 0); break; /* nothing is lent */
     case LAYOUT: respond(hazomeny_layout(file, length, width), file, length); break;
+    case PLAIN: answer_page(hazomeny_plain, file, length, room); break;
     default: stop("no such operation");
     }
 }

@@ -2,11 +2,12 @@
 // names take numbers and slices and answer in one number (`coded` of rules).
 use answers::in_one;
 use layout::whole::layout_with_max_line_width;
+use pages::whole::render_plain;
 use rules::Answer;
 use verify::walk::check;
 ghost use mathlib.Core.Path.{_≡_};
 ghost use Rattle.rules.specs.Result.{said};
-ghost use Rattle.rules.specs.Answers.{check-answer, layout-outcome, coded, coded-outcome};
+ghost use Rattle.rules.specs.Answers.{check-answer, layout-outcome, plain-outcome, coded, coded-outcome};
 
 // The file check: accepted with 0, or the first fault's number and place.
 pub fn check_file(file: &[u8]) -> Answer
@@ -34,4 +35,19 @@ pub extern "C" fn hazomeny_layout(file: &mut [u8], width: usize) -> u64
     ensures { λ r. ⌜ (r, now (file .exit)) ≡ coded-outcome (layout-outcome width (now (file .entry))) ⌝ }
 {
     in_one(layout_file(file, width))
+}
+
+// The plain page, of a file laid out or not: accepted with the page's length, written from the page's start, and later bytes as they were;
+// a page that is too short is refused with the bytes needed. A refusal changes no byte.
+pub fn plain_page(file: &[u8], page: &mut [u8]) -> Answer
+    ensures { λ r. ⌜ (said r, now (page .exit)) ≡ plain-outcome (now (file .entry)) (now (page .entry)) ⌝ }
+{
+    render_plain(file, page)
+}
+
+#[no_mangle]
+pub extern "C" fn hazomeny_plain(file: &[u8], page: &mut [u8]) -> u64
+    ensures { λ r. ⌜ (r, now (page .exit)) ≡ coded-outcome (plain-outcome (now (file .entry)) (now (page .entry))) ⌝ }
+{
+    in_one(plain_page(file, page))
 }

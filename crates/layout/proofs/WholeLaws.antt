@@ -1,48 +1,24 @@
 -- Layout of a whole file: what is refused, and what an accepted file becomes.
 use mathlib.Core.Path.{_≡_, refl, sym, ap, _∙_}
-use mathlib.Core.List.{List, [], _∷_}
-use Prim.Native.Nat.{ℕ, suc, _*_, _<_, _≤_}
-use lib.ListN.{length, getD}
+use mathlib.Core.List.{List}
+use Prim.Native.Nat.{ℕ, _*_, _<_, _≤_}
+use lib.ListN.{length}
 use borrow.Author.Tests.{le-leb, lt-leb}
 use Rattle.rules.specs.Bytes.{newline}
 use Rattle.rules.specs.declared.Refusal.{Refusal}
-use Rattle.rules.specs.declared.Refusal.the-variants.{TooLong, TooWide, Cut, WrongTag, WrongLength, TooDeep, NotUtf8, BadStyle, QuoteInAnchor, PageTooShort}
 use Rattle.rules.specs.declared.Answer.{Answer}
 use Rattle.rules.specs.declared.Answer.the-variants.{Done, Refused}
-use Rattle.rules.specs.Result.{Result, refused, accepted, _>>=_, _>>_, need, refusal, said}
+use Rattle.rules.specs.Result.{refused, accepted, _>>=_, _>>_, need, said}
 use Rattle.rules.specs.Tree.{Frag}
 use Rattle.rules.specs.Encode.{encode}
 use Rattle.rules.specs.Layout.{layout}
 use Rattle.rules.specs.Good.{Bytes}
 use Rattle.rules.specs.Answers.{tree, check-answer, changed, left-laid, layout-outcome, laid-out}
-use Rattle.rules.proofs.Chains.{no-path}
-use Rattle.rules.proofs.Files.{Read, tree-read}
+use Rattle.verify.proofs.Verdicts.{RefusedSo, refused-so, AcceptedAs, accepted-as}
 use Rattle.rigid.proofs.OfLeaves.{rigid-leaf}
 use Rattle.parts.specs.Walk.{Is}
 use Rattle.layout.specs.LaidIn.{Laid, fragment-in}
 use Rattle.layout.proofs.OfTrees.{laid-tree}
-
--- an answer is not a refusal
-differ : {A : Type 0} {a : A} {n p : ℕ} → accepted a ≡ refused n p → ⊥
-differ e = no-path (cc)
-
-not-accepted : (r : Refusal) (n : ℕ) → refusal r ≡ accepted n → ⊥
-unfolding refusal
-not-accepted TooLong n e = differ (sym e)
-not-accepted TooWide n e = differ (sym e)
-not-accepted (Cut p) n e = differ (sym e)
-not-accepted (WrongTag p) n e = differ (sym e)
-not-accepted (WrongLength p) n e = differ (sym e)
-not-accepted (TooDeep p) n e = differ (sym e)
-not-accepted (NotUtf8 p) n e = differ (sym e)
-not-accepted (BadStyle p) n e = differ (sym e)
-not-accepted (QuoteInAnchor p) n e = differ (sym e)
-not-accepted (PageTooShort p) n e = differ (sym e)
-
--- a list of which each is below 256
-pub every-byte : (s : List ℕ) → ((i : ℕ) → getD s i 0 < 256) → Bytes s
-every-byte [] h = tt
-every-byte (x ∷ s) h = (h 0, every-byte s (λ i. h (suc i)))
 
 module _ (w : ℕ) (s : List ℕ) where
   pub long-outcome : 60_000 < length s → (refused 1 0, s) ≡ layout-outcome w s
@@ -60,30 +36,21 @@ module _ (w : ℕ) (s : List ℕ) where
     checked-outcome = rw (le-leb (length s) 60_000 h, le-leb w 6_553 g) refl
 
     pub refused-outcome : (a : Answer) {r : Refusal} → a ≡ Refused r → said a ≡ check-answer s → (said a, s) ≡ layout-outcome w s
-    unfolding check-answer left-laid said _>>=_
-    refused-outcome a {r} q e = go (tree s) refl
-      where
-        go : (x : Result (Frag ℕ)) → tree s ≡ x → (said a, s) ≡ layout-outcome w s
-        go (accepted t) f = absurd (not-accepted r 0 (sym (ap said q) ∙ e ∙ ap (λ x. x >>= (λ t. accepted 0)) f))
-        go (refused m k) f =
-            ap (λ r. (r, s)) (e ∙ ap (λ x. x >>= (λ t. accepted 0)) f)
-            ∙ sym (checked-outcome ∙ ap (λ x. left-laid s (x >>= (λ t. accepted (layout newline w t)))) f)
+    unfolding left-laid _>>=_
+    refused-outcome a q e =
+        let R : RefusedSo s (said a) = refused-so s a q e in
+        ap (λ r. (r, s)) (R .says) ∙ sym (checked-outcome ∙ ap (λ x. left-laid s (x >>= (λ t. accepted (layout newline w t)))) (R .no-tree))
 
     pub laid-outcome : Bytes s → (a : Answer) {n : ℕ} → a ≡ Done n → said a ≡ check-answer s → {m : ℕ} → m ≡ 10 * w → {l : Laid} {s′ : List ℕ} → Is (fragment-in 32 m m 0 s) l s′
         → (accepted (l .1), s′) ≡ layout-outcome w s
-    unfolding check-answer left-laid said _>>=_
-    laid-outcome b a {n} q e {m} k {l} {s′} i = go (tree s) refl
-      where
-        go : (x : Result (Frag ℕ)) → tree s ≡ x → (accepted (l .1), s′) ≡ layout-outcome w s
-        go (refused m k) f =
-            let z : _≡_ {A = Result ℕ} (accepted n) (refused m k) = sym (ap said q) ∙ e ∙ ap (λ x. x >>= (λ t. accepted 0)) f in
-            absurd (differ z)
-        go (accepted t) f =
-            let R : Read s t = tree-read s t b f in
-            let L = laid-tree rigid-leaf w t (R .good) in
-            let x : fragment-in 32 m m 0 s ≡ fragment-in 32 (10 * w) (10 * w) 0 (encode t) = rw (k, R .encodes) refl in
-            let bytes : s′ ≡ encode (layout newline w t) = i .bytes ∙ ap (λ x. x .1) x ∙ L .0 in
-            let count : l .1 ≡ length (changed 0 s (encode (layout newline w t))) =
-            ap (λ (l : Laid). l .1) (i .value ∙ ap (λ x. x .0) x) ∙ L .1 ∙ ap (λ (s : List ℕ). length (changed 0 s (encode (layout newline w t)))) (R .encodes) in
-            ap (λ (n : ℕ). (accepted n, s′)) count ∙ ap (λ (y : List ℕ). (accepted (length (changed 0 s (encode (layout newline w t)))), y)) bytes
-            ∙ sym (checked-outcome ∙ ap (λ x. left-laid s (x >>= (λ t. accepted (layout newline w t)))) f)
+    unfolding left-laid _>>=_
+    laid-outcome b a q e {m} k {l} {s′} i =
+        let A : AcceptedAs s = accepted-as s a b q e in
+        let t : Frag ℕ = A .root in
+        let L = laid-tree rigid-leaf w t (A .read .good) in
+        let x : fragment-in 32 m m 0 s ≡ fragment-in 32 (10 * w) (10 * w) 0 (encode t) = rw (k, A .read .encodes) refl in
+        let bytes : s′ ≡ encode (layout newline w t) = i .bytes ∙ ap (λ x. x .1) x ∙ L .0 in
+        let count : l .1 ≡ length (changed 0 s (encode (layout newline w t))) =
+        ap (λ (l : Laid). l .1) (i .value ∙ ap (λ x. x .0) x) ∙ L .1 ∙ ap (λ (s : List ℕ). length (changed 0 s (encode (layout newline w t)))) (A .read .encodes) in
+        ap (λ (n : ℕ). (accepted n, s′)) count ∙ ap (λ (y : List ℕ). (accepted (length (changed 0 s (encode (layout newline w t)))), y)) bytes
+        ∙ sym (checked-outcome ∙ ap (λ x. left-laid s (x >>= (λ t. accepted (layout newline w t)))) (A .its-tree))

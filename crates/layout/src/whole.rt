@@ -3,6 +3,7 @@ use crate::choice::MaxWidths;
 use crate::flex::approx_layout;
 use rules::Answer;
 use rules::Refusal;
+use verify::front::MAX_DEPTH;
 use verify::walk::MAX_FILE;
 use verify::walk::check;
 ghost use mathlib.Core.Path.{_≡_};
@@ -12,9 +13,6 @@ ghost use Rattle.rules.specs.Answers.{layout-outcome};
 
 // The widest line.
 const MAX_WIDTH: usize = 6553;
-
-// The blocks that may stand inside each other.
-const MAX_DEPTH: usize = 32;
 
 // A width in tenths of a column.
 fn tenths(width: usize) -> u16

@@ -1,8 +1,12 @@
 -- Going over the fields of a list of bytes.
 use mathlib.Core.Path.{_≡_}
 use mathlib.Core.List.{List, [], _∷_, _++_}
-use Prim.Native.Nat.{ℕ, zero, suc, _+_, _*_, min}
+use Prim.Native.Nat.{ℕ, zero, suc, _+_, _-_, _*_, min}
 use lib.ListN.{length, getD, take, drop}
+
+-- the bytes from `from` to `to`
+unfoldable pub part : List ℕ → (from to : ℕ) → List ℕ
+part s from to = take (to - from) (drop from s)
 
 -- how many bytes the first field has, its header with it; a field that is cut has what is there
 unfoldable pub span : List ℕ → ℕ

@@ -10,7 +10,14 @@ fn replay(s: &[u8]) {
     let mut at = 0;
     while at < s.len() {
         let r = request_at(s, at);
-        let Request::File { width, from, to } = r else {
+        let Request::File {
+            op: _,
+            width: _,
+            room: _,
+            from,
+            to,
+        } = r
+        else {
             return;
         };
         tell(check(&s[from..to]));

@@ -12,7 +12,14 @@ fn replay(s: &mut [u8]) {
     let mut at = 0;
     while at < s.len() {
         let r = request_at(s, at);
-        let Request::File { width, from, to } = r else {
+        let Request::File {
+            op: _,
+            width,
+            room: _,
+            from,
+            to,
+        } = r
+        else {
             return;
         };
         tell(layout_file(&mut s[from..to], width));

@@ -12,8 +12,8 @@ pub record FileAt (s : List ℕ) (at f e : ℕ) : Type 0 where
   pub within : e ≤ length s
 
 abbrev pub Stands : List ℕ → ℕ → Request → Type 0
-Stands s at (File w f e) = FileAt s at f e
+Stands s at (File o w room f e) = FileAt s at f e
 Stands s at NoMore = Unit {0}
 
-pub file-at : (s : List ℕ) (at : ℕ) {r : Request} {w f e : ℕ} → Stands s at r → r ≡ File w f e → FileAt s at f e
+pub file-at : (s : List ℕ) (at : ℕ) {r : Request} {o w room f e : ℕ} → Stands s at r → r ≡ File o w room f e → FileAt s at f e
 file-at s at S is = subst (Stands s at) is S

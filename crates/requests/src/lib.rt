@@ -1,4 +1,5 @@
-// A batch of recorded requests: where the file of the request at a place stands (tests/recorded/README.md has the format).
+// A batch of recorded requests: where the file of the request at a place stands, and the page that is lent (tests/recorded/README.md has
+// the format).
 use fields::wide;
 ghost use Prim.Native.Nat.{_+_, _≤_};
 ghost use lib.ListN.{length};
@@ -8,9 +9,11 @@ ghost use Rattle.requests.specs.Requests.{Stands};
 pub const HEADER: usize = 11;
 
 pub enum Request {
-    // its width; its file stands from `from` to `to`
+    // its operation, its width and the room of its page; its file stands from `from` to `to`
     File {
+        op: u8,
         width: usize,
+        room: usize,
         from: usize,
         to: usize,
     },
@@ -31,6 +34,13 @@ fn width_of(s: &[u8], at: usize) -> usize
     wide(s[at + 1]) * 256 + wide(s[at + 2])
 }
 
+// The two low bytes of the room: a recorded page is shorter than 2^16 bytes.
+fn room_of(s: &[u8], at: usize) -> usize
+    requires { ⌜ at + 11 ≤ length (now s) ⌝ }
+{
+    wide(s[at + 5]) * 256 + wide(s[at + 6])
+}
+
 // The request at `at`.
 pub fn request_at(s: &[u8], at: usize) -> Request
     ensures { λ r. ⌜ Stands (now (s .entry)) at r ⌝ }
@@ -47,8 +57,21 @@ pub fn request_at(s: &[u8], at: usize) -> Request
         return Request::NoMore;
     }
     Request::File {
+        op: s[at],
         width: width_of(s, at),
+        room: room_of(s, at),
         from,
         to: from + n,
+    }
+}
+
+// The pattern of a lent page, of which a refusal must change nothing and a page only what it covers.
+const PATTERN: u8 = 0xa5;
+
+pub fn fill(page: &mut [u8]) {
+    let mut at = 0;
+    while at < page.len() {
+        page[at] = PATTERN;
+        at += 1;
     }
 }

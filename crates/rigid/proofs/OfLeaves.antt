@@ -3,7 +3,7 @@ use mathlib.Core.Path.{_≡_, refl, sym, ap, _∙_}
 use mathlib.Core.List.{List, [], _∷_, _++_}
 use mathlib.Core.Option.{Option, none, some}
 use mathlib.Core.Bool.{Bool, true, false}
-use Prim.Native.Nat.{ℕ, zero, suc, _+_, _-_, _≤_, _<_}
+use Prim.Native.Nat.{ℕ, zero, suc, _+_, _≤_, _<_}
 use native.Mathlib.Omega.{arith}
 use lib.ListN.{length, length-append}
 use borrow.Author.Tests.{le-leb}
@@ -18,10 +18,10 @@ use Rattle.rules.proofs.Turned.{leaf-bytes}
 use Rattle.fields.proofs.Encoded.{field-here, value-here}
 use Rattle.styles.specs.StylesIn.{styles-in}
 use Rattle.styles.specs.Sound.{good-styles}
-use Rattle.parts.specs.Walk.{fold}
+use Rattle.parts.specs.Walk.{part, fold}
 use Rattle.parts.proofs.Loops.{fold-nil}
 use Rattle.parts.proofs.OfFields.{length-field, fold-field}
-use Rattle.rigid.specs.RigidIn.{wide, by-parts, text-in, part, chars-in, styled-in, run-in, with-run, anchor-in, by-tag, rigid-in}
+use Rattle.rigid.specs.RigidIn.{wide, by-parts, text-in, chars-in, styled-in, run-in, with-run, anchor-in, by-tag, rigid-in}
 
 -- ---- a text
 

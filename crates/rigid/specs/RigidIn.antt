@@ -1,25 +1,22 @@
 -- The rigid layout of a node, by the bytes of its field; for any bytes, so that no caller owes anything.
 use mathlib.Core.List.{List, [], _∷_}
 use mathlib.Core.Bool.{_&&_, _||_}
-use Prim.Native.Nat.{ℕ, _*_, _-_}
+use Prim.Native.Nat.{ℕ, _*_}
 use lib.Dec.{leb, eqb}
-use lib.ListN.{length, getD, take, drop}
+use lib.ListN.{length, getD, drop}
 use Rattle.rules.specs.Bytes.{if_then_else_, cap, newline}
 use Rattle.rules.specs.Layout.{Shape, Inline, Block, _⊕_, last, parts, only-if-block, byte-width, effective}
 use Rattle.fields.specs.declared.Field.{Field}
 use Rattle.fields.specs.declared.Field.the-variants.{Whole, Past, Cut}
 use Rattle.fields.specs.FieldAt.{field-at}
 use Rattle.styles.specs.StylesIn.{styles-in}
-use Rattle.parts.specs.Walk.{fold}
+use Rattle.parts.specs.Walk.{part, fold}
 
 -- n bytes, each w tenths of a column wide
 unfoldable pub wide : (n w : ℕ) → ℕ
 wide n w = cap (n * w)
 
--- how many bytes stand before the first newline, and after the last
-unfoldable pub first-long : List ℕ → ℕ
-first-long v = length (parts newline v .0)
-
+-- how many bytes stand after the last newline
 unfoldable pub last-long : List ℕ → ℕ
 last-long v = length (last (parts newline v .0) (parts newline v .1))
 
@@ -31,10 +28,6 @@ by-parts w a (b ∷ bs) = Block (wide (length a) w) (wide (length (last b bs)) w
 -- a text whose bytes are w tenths of a column wide
 unfoldable pub text-in : ℕ → List ℕ → Shape
 text-in w v = by-parts w (parts newline v .0) (parts newline v .1)
-
--- the bytes from `from` to `to`
-unfoldable pub part : List ℕ → (from to : ℕ) → List ℕ
-part s from to = take (to - from) (drop from s)
 
 -- the text of a 17
 unfoldable pub chars-in : List ℕ → ℕ → Field → Shape

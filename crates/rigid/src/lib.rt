@@ -2,7 +2,7 @@
 ghost use mathlib.Core.Path.{_≡_};
 ghost use Rattle.shapes.specs.Shapes.{shape};
 ghost use Rattle.rules.specs.Layout.{only-if-block};
-ghost use Rattle.rigid.specs.RigidIn.{wide, first-long, last-long, text-in, run-in, with-run, anchor-in, by-tag, rigid-in};
+ghost use Rattle.rigid.specs.RigidIn.{wide, last-long, text-in, run-in, with-run, anchor-in, by-tag, rigid-in};
 use fields::Field;
 use fields::field_at;
 use parts::field_end;
@@ -12,6 +12,7 @@ use shapes::block_or_mixed;
 use shapes::inline;
 use styles::byte_width;
 use styles::read_styles;
+use texts::first_line_end;
 
 // The width of a byte without a style.
 const BYTE: u16 = 10;
@@ -31,20 +32,6 @@ fn columns(n: usize, w: u16) -> u16
         return 65535;
     }
     all as u16
-}
-
-// The place of the first newline, or the length.
-fn first_line_end(v: &[u8]) -> usize
-    ensures { λ r. ⌜ r ≡ first-long (now (v .entry)) ⌝ }
-{
-    let mut at = 0;
-    while at < v.len() {
-        if v[at] == b'\n' {
-            return at;
-        }
-        at += 1;
-    }
-    at
 }
 
 // How many bytes follow the last newline.

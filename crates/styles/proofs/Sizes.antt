@@ -1,19 +1,22 @@
 -- Sizes: signed bytes, the effective size of a style record, and the width of one byte.
-use mathlib.Core.Path.{_≡_, refl, ap, _∙_}
+use mathlib.Core.Path.{_≡_, refl, sym, ap, _∙_}
 use mathlib.Core.Option.{Option, none, some}
 use mathlib.Core.Bool.{Bool, true, false, not, _||_}
 use Prim.Native.Nat.{ℕ, suc, _-_, _<_, _≤_, _^_}
 use native.Mathlib.Omega.{arith}
 use lib.Dec.{T, leb, ltb, eqb, ltb→lt, eqb→eq}
 use lib.IntN.{ℤ, pos, negsuc, natAbs, _+ℤ_, _-ℤ_}
-use lib.Signed.{mag, ltZ, nonNeg}
+use lib.Signed.{mag, leZ, ltZ, nonNeg}
 use borrow.Author.Tests.{lt-ltb, le-ltb, le-leb}
 use mir.Syntax.{w8, w16}
 use mir.Val.{SFits, Fits, toZ, ofZ}
+use mir.ValLaws.{toZ-ofZ}
 use Rattle.rules.specs.Digits.{signed}
+use Rattle.rules.specs.Walk.{right-size}
 use Rattle.rules.specs.Layout.{or-script, effective, not-negative, byte-width}
 use Rattle.styles.specs.declared.Styles.{Styles}
 use Rattle.styles.specs.Said.{flagged, said-styles, or-zero, is-there}
+use Rattle.styles.specs.StylesWritable.{size-test}
 use Rattle.styles.proofs.EveryByte.{of-byte, of-signed, equal, fitting}
 
 -- ---- a byte as a signed one: below 128 itself, else 256 less
@@ -41,6 +44,10 @@ module _ (b : ℕ) (h : b < 256) (l : 128 ≤ b) where
       let same : ofZ w8 (stored b) ≡ b = eqb→eq _ _ (of-byte (leb 128) (λ b. eqb (ofZ w8 (stored b)) b) tt b h (le-leb 128 b l)) in
       let n : 256 - suc b ≡ 255 - b = omega arith in
       ap (toZ w8) same ∙ rw (le-ltb b 128 l, n)
+
+-- a size as it is stored, against the largest: the test of its byte
+pub size-tested : (z : ℤ) (b : ℕ) (r : Bool) → SFits w8 z → z ≡ signed b → leZ (toZ w8 (ofZ w8 z)) (pos 117) ≡ r → right-size b ≡ r
+size-tested z b r f e t = sym (size-test b) ∙ ap (λ (x : ℤ). leZ x (pos 117)) (sym (toZ-ofZ w8 z f ∙ e)) ∙ t
 
 -- ---- the effective size
 

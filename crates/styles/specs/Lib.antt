@@ -2,4 +2,4 @@
 pub mod Said
 pub mod StylesIn
 pub mod Sound
-pub mod Opacities
+pub mod StylesWritable

@@ -4,6 +4,7 @@ use mathlib.Core.Option.{Option, none, some}
 use mathlib.Core.Bool.{Bool, true, false}
 use Prim.Native.Nat.{ℕ}
 use lib.IntN.{ℤ, pos}
+use lib.Signed.{_≤ℤ_}
 use lib.Ieee.{binary32, toBits}
 use Rattle.rules.specs.Walk.{right-opacity}
 use Rattle.rules.specs.Tree as rules
@@ -38,3 +39,13 @@ is-there (some a) = true
 abbrev pub Allowed : Option ℕ → Type 0
 Allowed none = Unit {0}
 Allowed (some bits) = right-opacity bits ≡ true
+
+-- a size, where there is one, is at most 117
+abbrev pub AllowedSize : Option ℤ → Type 0
+AllowedSize none = Unit {0}
+AllowedSize (some size) = size ≤ℤ pos 117
+
+-- a style that has a text in HTML
+pub record Writable (st : rules.Styles) : Type 0 where
+  pub opacity-allowed : Allowed (st .opacity)
+  pub size-allowed : AllowedSize (st .size)

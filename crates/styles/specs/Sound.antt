@@ -3,14 +3,14 @@ use mathlib.Core.Path.{_≡_, refl, sym, ap, _∙_}
 use mathlib.Core.List.{List, [], _++_, append-assoc}
 use mathlib.Core.Option.{Option, none, some, Option·map}
 use mathlib.Core.Bool.{Bool, true, false, _&&_, _||_, and-eq-true-iff, or-false, or-assoc, or-comm}
-use Prim.Native.Nat.{ℕ, zero, suc, _+_, _-_, _≤_, _<_}
+use Prim.Native.Nat.{ℕ, zero, suc, _+_, _≤_, _<_}
 use native.Mathlib.Omega.{arith}
 use lib.Dec.{leb, ltb, eqb}
 use lib.ListN.{length, length-append}
 use borrow.Author.Tests.{leb-true, ltb-true, eqb-true, ne-eqb, lt-leb}
 use Rattle.rules.specs.Bytes.{if_then_else_, within, has, number}
 use Rattle.rules.specs.Result.{accepted}
-use Rattle.rules.specs.Walk.{Fields, end, bytes, inside, Holder, in-styles, allowed, holds, content, right-length, right-opacity, tags, walk}
+use Rattle.rules.specs.Walk.{Fields, end, bytes, inside, Holder, in-styles, allowed, holds, content, right-length, right-opacity, right-size, tags, walk}
 use Rattle.rules.specs.Tree.{Styles, bytes-of, signed-byte, styles-of}
 use Rattle.rules.specs.Encode.{field, encode-fields}
 use Rattle.rules.specs.Good.{Bytes, Good}
@@ -61,17 +61,23 @@ passed t d before (inside u i r) l G =
 -- the value of a good field counts
 counts : (t : ℕ) (v : List ℕ) → right-length t (length v) ≡ true → content t v ≡ 0 → right-value t v ≡ true
 unfolding right-value content
-counts t v l c = go (eqb t 33) refl
+counts t v l c = go (eqb t 33) (eqb t 35) refl refl
   where
     sound : (b : Bool) → _≡_ {A = ℕ} (if b then 0 else 8) 0 → b ≡ true
     sound true e = refl
     sound false e = absurd (omega arith)
 
-    go : (b : Bool) → eqb t 33 ≡ b → (if b then right-length t (length v) && right-opacity (number v) else right-length t (length v)) ≡ true
-    go true e =
+    go : (b d : Bool) → eqb t 33 ≡ b → eqb t 35 ≡ d
+        → (if b then right-length t (length v) && right-opacity (number v) else
+        if d then right-length t (length v) && right-size (number v) else
+        right-length t (length v)) ≡ true
+    go true d e f =
         let n : t ≡ 33 = eqb-true t 33 e in
         rw (l, sound (right-opacity (number v)) (rw n at c))
-    go false e = l
+    go false true e f =
+        let n : t ≡ 35 = eqb-true t 35 f in
+        rw (l, sound (right-size (number v)) (rw n at c))
+    go false false e f = l
 
 -- ---- all of them
 

@@ -6,7 +6,7 @@ use Prim.Native.Nat.{ℕ, zero, suc, _-_}
 use lib.Dec.{eqb}
 use lib.ListN.{length, take, drop}
 use Rattle.rules.specs.Bytes.{if_then_else_, number}
-use Rattle.rules.specs.Walk.{right-length, right-opacity}
+use Rattle.rules.specs.Walk.{right-length, right-opacity, right-size}
 use Rattle.rules.specs.Tree.{Styles, signed-byte}
 use Rattle.fields.specs.declared.Field.{Field}
 use Rattle.fields.specs.declared.Field.the-variants.{Whole, Past, Cut}
@@ -24,12 +24,12 @@ no-styles = record {
   dim = false;
 }
 
--- a value that counts: its length is the tag's, and an opacity is one that is allowed
+-- a value that counts: its length is the tag's, and an opacity or a size is one that is allowed
 unfoldable pub right-value : ℕ → List ℕ → Bool
 right-value t v =
-    if eqb t 33
-    then right-length t (length v) && right-opacity (number v)
-    else right-length t (length v)
+    if eqb t 33 then right-length t (length v) && right-opacity (number v) else
+    if eqb t 35 then right-length t (length v) && right-size (number v) else
+    right-length t (length v)
 
 -- a field put into a style: the part that its tag speaks of
 unfoldable pub put-part : Styles → ℕ → List ℕ → Styles

@@ -130,6 +130,9 @@ fn with_thickness(st: Styles, v: &[u8]) -> Styles
     out
 }
 
+// The largest size that is allowed.
+const MAX_SIZE: i8 = 117;
+
 // A field 35 put in.
 fn with_size(st: Styles, v: &[u8]) -> Styles
     ensures { λ r. ⌜ said-styles r ≡ with-field (said-styles st) 35 (now (v .entry)) ⌝ }
@@ -137,10 +140,14 @@ fn with_size(st: Styles, v: &[u8]) -> Styles
     if v.len() != 1 {
         return st;
     }
-    let mut out = st;
-    out.has_size = true;
-    out.size = signed_byte(v[0]);
-    out
+    let size = signed_byte(v[0]);
+    if size <= MAX_SIZE {
+        let mut out = st;
+        out.has_size = true;
+        out.size = size;
+        return out;
+    }
+    st
 }
 
 // A field 36 put in.

@@ -7,3 +7,4 @@ pub mod ContentLaws
 pub mod DepthLaws
 pub mod LoopLaws
 pub mod CheckLaws
+pub mod Verdicts

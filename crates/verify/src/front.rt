@@ -20,12 +20,15 @@ pub enum Front {
     Faulty(Refusal),
 }
 
-// A block inside 32 others.
+// The blocks that may stand inside each other.
+pub const MAX_DEPTH: usize = 32;
+
+// A block inside so many others.
 fn too_deep(tag: u8, depth: usize) -> bool
     ensures { λ r. ⌜ r ≡ (is-block tag && leb 32 depth) ⌝ }
 {
     if is_block(tag) {
-        return 32 <= depth;
+        return MAX_DEPTH <= depth;
     }
     false
 }

@@ -5,7 +5,7 @@ use lib.ListN.{length, take}
 use borrow.Author.Needs.{needs}
 use Rattle.writing.specs.Written.{Written}
 use Rattle.writing.specs.Laws.{nothing, kept}
-use Rattle.writing.proofs.Turns.{room, more, all}
+use Rattle.writing.proofs.Turns.{more, all}
 use Rattle.writing.proofs.put_bytes.Statement.{statement}
 use Rattle.writing.proofs.put_bytes.Tie as tie
 
@@ -22,9 +22,7 @@ shared-slice-read-put : tie.Need-shared-slice-read-put Inv-loop μ-loop
 shared-slice-read-put c = search needs
 
 put-requires : tie.Need-put-requires Inv-loop μ-loop
-put-requires c κs =
-    let turn = c .before .before in
-    room _ _ refl (turn .before .loop .inv .1) (turn .loop-test .taken) (turn .before .before .before .before .pre)
+put-requires c κs = search needs
 
 add-i : tie.Need-add-i Inv-loop μ-loop
 add-i c = search needs

@@ -4,7 +4,7 @@ use lib.ListN.{take, replicate, length-replicate, getD-replicate}
 use borrow.Author.Needs.{needs}
 use Rattle.writing.specs.Written.{Written}
 use Rattle.writing.specs.Laws.{nothing, kept}
-use Rattle.writing.proofs.Turns.{room, more, all}
+use Rattle.writing.proofs.Turns.{more, all}
 use Rattle.writing.proofs.put_spaces.Statement.{statement}
 use Rattle.writing.proofs.put_spaces.Tie as tie
 
@@ -18,9 +18,7 @@ loop-holds : tie.Need-loop-holds Inv-loop μ-loop
 loop-holds c = (search needs, nothing)
 
 put-requires : tie.Need-put-requires Inv-loop μ-loop
-put-requires c κs =
-    let turn = c .before in
-    room _ _ (length-replicate _ _) (turn .before .loop .inv .1) (turn .loop-test .taken) (turn .before .before .before .pre)
+put-requires c κs = search needs
 
 add-i : tie.Need-add-i Inv-loop μ-loop
 add-i c = search needs

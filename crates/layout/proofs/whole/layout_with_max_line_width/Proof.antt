@@ -2,8 +2,9 @@
 use native.Mathlib.Omega.{arith}
 use borrow.Author.Needs.{needs}
 use Rattle.rules.specs.Result.{said, refusal}
+use Rattle.verify.proofs.Verdicts.{every-byte}
 use Rattle.layout.specs.Said as laid
-use Rattle.layout.proofs.WholeLaws.{every-byte, long-outcome, wide-outcome, refused-outcome, laid-outcome}
+use Rattle.layout.proofs.WholeLaws.{long-outcome, wide-outcome, refused-outcome, laid-outcome}
 use Rattle.layout.proofs.whole.layout_with_max_line_width.Statement.{statement}
 use Rattle.layout.proofs.whole.layout_with_max_line_width.Tie as tie
 

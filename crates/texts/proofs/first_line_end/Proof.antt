@@ -1,13 +1,13 @@
--- `rigid::first_line_end` meets its contract. The loop's invariant: the bytes passed have no newline.
+-- `texts::first_line_end` meets its contract. The loop's invariant: the bytes passed have no newline.
 use mathlib.Core.Path.{_≡_}
 use Prim.Native.Nat.{_+_, _-_, _≤_}
 use native.Mathlib.Omega.{arith}
 use lib.ListN.{length, drop}
 use borrow.Author.Needs.{needs}
-use Rattle.rigid.specs.RigidIn.{first-long}
-use Rattle.rigid.proofs.Lines.{found, passed, none-found}
-use Rattle.rigid.proofs.first_line_end.Statement.{statement}
-use Rattle.rigid.proofs.first_line_end.Tie as tie
+use Rattle.texts.specs.FirstLine.{first-long}
+use Rattle.texts.proofs.Passing.{found, passed, none-found}
+use Rattle.texts.proofs.first_line_end.Statement.{statement}
+use Rattle.texts.proofs.first_line_end.Tie as tie
 
 abbrev Inv-loop : tie.InvT-loop
 Inv-loop v at₀ at = (at ≤ length v) × (at + first-long (drop at v) ≡ first-long v)

@@ -1,0 +1,65 @@
+-- `digits::put_last_digits` meets its contract: the places fall at each call.
+use Prim.Native.Nat.{ℕ, _<_}
+use native.Mathlib.Omega.{arith}
+use borrow.Author.Needs.{needs}
+use borrow.Fn.Kinds.{In}
+use borrow.Fn.PlainCycle.{Measures, is, falls, and}
+use Rattle.digits.proofs.Figures.{no-digits, place-more}
+use Rattle.digits.proofs.put_last_digits.Reads as put-last-digits
+use Rattle.digits.proofs.put_last_digits.Kinds as put-last-digits-kinds
+use Rattle.digits.proofs.+put_last_digits.Lts-put_last_digits as put-last-digits-lts
+use Rattle.digits.proofs.last_digit.Reads as last-digit-reads
+use Rattle.writing.proofs.put.Reads as put-reads
+use Rattle.digits.proofs.+put_last_digits.{statement}
+use Rattle.digits.proofs.+put_last_digits.Tie.{close}
+
+abbrev μ-put-last-digits : Measures 1 put-last-digits-kinds.ps ℕ
+μ-put-last-digits κs a = a .1 .1 .1 .0
+
+abbrev put-last-digits-at : ℕ → In 1 put-last-digits-kinds.ps
+put-last-digits-at t =
+    and 1 put-last-digits-kinds.ps (is 1 put-last-digits-kinds.ps μ-put-last-digits t) put-last-digits.Pre
+
+abbrev put-last-digits-below : ℕ → In 1 put-last-digits-kinds.ps
+put-last-digits-below t =
+    and 1 put-last-digits-kinds.ps (falls 1 put-last-digits-kinds.ps _<_ μ-put-last-digits t) put-last-digits.Pre
+
+abbrev put-last-digits-given : ℕ → put-last-digits-lts.Claims
+put-last-digits-given t =
+    (put-last-digits-below t, put-last-digits.Post, last-digit-reads.Asked, last-digit-reads.Learnt, put-reads.Asked, put-reads.Learnt)
+
+put-last-digits-returns : (t : ℕ) → put-last-digits-lts.Need-returns (put-last-digits-given t) (put-last-digits-at t) put-last-digits.Post
+put-last-digits-returns t c = no-digits _ _ (c .if1 .taken)
+
+put-last-digits-sub-put-last-digits : (t : ℕ) → put-last-digits-lts.Need-sub-put-last-digits (put-last-digits-given t) (put-last-digits-at t) put-last-digits.Post
+put-last-digits-sub-put-last-digits t c = search needs
+
+put-last-digits-put-last-digits-requires : (t : ℕ) → put-last-digits-lts.Need-put-last-digits-requires (put-last-digits-given t) (put-last-digits-at t) put-last-digits.Post
+put-last-digits-put-last-digits-requires t c κs = (omega (arith, c .before .before .before .pre .0), tt)
+
+put-last-digits-last-digit-requires : (t : ℕ) → put-last-digits-lts.Need-last-digit-requires (put-last-digits-given t) (put-last-digits-at t) put-last-digits.Post
+put-last-digits-last-digit-requires t c κs = search needs
+
+put-last-digits-put-requires : (t : ℕ) → put-last-digits-lts.Need-put-requires (put-last-digits-given t) (put-last-digits-at t) put-last-digits.Post
+put-last-digits-put-requires t c κs = search needs
+
+put-last-digits-same-length : (t : ℕ) → put-last-digits-lts.Need-same-length (put-last-digits-given t) (put-last-digits-at t) put-last-digits.Post
+put-last-digits-same-length t c = search needs
+
+put-last-digits-returns-2 : (t : ℕ) → put-last-digits-lts.Need-returns-2 (put-last-digits-given t) (put-last-digits-at t) put-last-digits.Post
+put-last-digits-returns-2 t c =
+    let last = c .before .before in
+    let before = last .before .before .before .before .before in
+    place-more _ _ (last .before .last-digit .ensures) (before .before .before .if1 .left) (before .put-last-digits .ensures) (last .put .ensures)
+
+pub +put-last-digits-spec : {M : Type 1} → statement M
++put-last-digits-spec = close μ-put-last-digits λ t. put-last-digits-lts.spec (put-last-digits-given t)
+    (put-last-digits-at t)
+    put-last-digits.Post
+    (put-last-digits-returns t)
+    (put-last-digits-sub-put-last-digits t)
+    (put-last-digits-put-last-digits-requires t)
+    (put-last-digits-last-digit-requires t)
+    (put-last-digits-put-requires t)
+    (put-last-digits-same-length t)
+    (put-last-digits-returns-2 t)

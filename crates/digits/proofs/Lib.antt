@@ -1,0 +1,3 @@
+-- Laws of the texts of numbers, and of signed numbers made wider.
+pub mod Figures
+pub mod Wider

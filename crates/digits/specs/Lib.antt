@@ -1,0 +1,2 @@
+-- The code's decimals in the rules' words.
+pub mod Said

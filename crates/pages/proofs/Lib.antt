@@ -1,0 +1,13 @@
+-- Laws that the proofs of the code cite.
+pub mod EachOf
+pub mod OfLeaves
+pub mod OfTrees
+pub mod ItemCosts
+pub mod PageLengths
+pub mod Running
+pub mod Pens
+pub mod Going
+pub mod TextLines
+pub mod LeafLaws
+pub mod WalkLaws
+pub mod WholeLaws

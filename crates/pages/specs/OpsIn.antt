@@ -1,0 +1,118 @@
+-- The line operations of a node, of a block's fragments and of a fragment's nodes, by their bytes; for any bytes, so that no caller owes
+-- anything.
+use mathlib.Core.List.{List, [], _∷_, _++_}
+use mathlib.Core.Bool.{Bool, true, false}
+use Prim.Native.Nat.{ℕ, zero, suc}
+use lib.Dec.{leb, eqb}
+use lib.ListN.{length, getD, drop}
+use Rattle.rules.specs.Bytes.{if_then_else_, newline}
+use Rattle.rules.specs.Lines.{LineOp, mark, push, pop, open-anchor, close-anchor, empty-anchor, break, a-space, a-newline, indent, unindent, text-ops}
+use Rattle.fields.specs.declared.Field.{Field}
+use Rattle.fields.specs.declared.Field.the-variants.{Whole, Past, Cut}
+use Rattle.fields.specs.FieldAt.{field-at}
+use Rattle.styles.specs.StylesIn.{styles-in}
+use Rattle.parts.specs.Walk.{part, here, rest}
+
+abbrev pub Ops : Type 0
+Ops = List (LineOp ℕ)
+
+-- f's operations at each field in turn, for at most k fields
+unfoldable pub each : (List ℕ → Ops) → ℕ → List ℕ → Ops
+each f zero s = []
+each f (suc k) [] = []
+each f (suc k) (x ∷ s) = f (here (x ∷ s)) ++ each f k (rest (x ∷ s))
+
+-- at each field from `from` on
+unfoldable pub each-from : (List ℕ → Ops) → (from : ℕ) → List ℕ → Ops
+each-from f from s = each f (length s) (drop from s)
+
+-- ---- a text
+
+-- the 17 behind a style
+unfoldable pub styled-in : List ℕ → (style : List ℕ) → Field → Ops
+styled-in v style (Whole t from to) =
+    mark (push (styles-in style)) ∷ (text-ops newline (part v from to) ++ (mark (pop (styles-in style)) ∷ []))
+styled-in v style (Past t) = []
+styled-in v style Cut = []
+
+-- a 17, or a 16 and a 17
+unfoldable pub run-fields-in : List ℕ → Field → Ops
+run-fields-in v (Whole t from to) = if eqb t 16 then styled-in v (part v from to) (field-at v to) else text-ops newline (part v from to)
+run-fields-in v (Past t) = []
+run-fields-in v Cut = []
+
+-- the value of a 1
+unfoldable pub run-in : List ℕ → Ops
+run-in v = run-fields-in v (field-at v 0)
+
+-- ---- an anchor
+
+-- a field of a 2 behind its name
+unfoldable pub run-field-in : List ℕ → Ops
+run-field-in h = if leb 3 (length h) then run-in (drop 3 h) else []
+
+-- the name, and the runs from `to` on
+unfoldable pub named-in : (definition : Bool) → (name : List ℕ) → (to : ℕ) → List ℕ → Ops
+named-in definition name to v =
+    if leb (length v) to
+    then empty-anchor definition name ∷ []
+    else mark (open-anchor definition name) ∷ (each-from run-field-in to v ++ (mark close-anchor ∷ []))
+
+unfoldable pub anchor-fields-in : List ℕ → Field → Ops
+anchor-fields-in v (Whole t from to) = named-in (eqb t 18) (part v from to) to v
+anchor-fields-in v (Past t) = []
+anchor-fields-in v Cut = []
+
+-- the value of a 2
+unfoldable pub anchor-in : List ℕ → Ops
+anchor-in v = anchor-fields-in v (field-at v 0)
+
+-- ---- a node
+
+-- a 7 counts only directly in a block
+unfoldable pub if-block-in : (directly : Bool) → List ℕ → Ops
+if-block-in true v = text-ops newline v
+if-block-in false v = []
+
+-- a node that is no block, by its tag
+unfoldable pub leaf-in : (directly : Bool) → ℕ → List ℕ → Ops
+leaf-in directly t v =
+    if eqb t 1 then run-in v else
+    if eqb t 2 then anchor-in v else
+    if eqb t 5 then break a-space ∷ [] else
+    if eqb t 6 then break a-newline ∷ [] else
+    if eqb t 7 then if-block-in directly v else
+    []
+
+-- a node, whose whole field is h; what a 3 and a 4 give
+unfoldable pub node-by : (directly : Bool) → (three four : Ops) → List ℕ → Ops
+node-by directly three four h =
+    if leb 3 (length h)
+    then (if eqb (getD h 0 0) 3 then three else if eqb (getD h 0 0) 4 then four else leaf-in directly (getD h 0 0) (drop 3 h))
+    else []
+
+-- behind a fragment of a block
+unfoldable pub behind-fragment : (directly : Bool) → Ops
+behind-fragment true = break a-newline ∷ []
+behind-fragment false = []
+
+-- a block's fragments, each node by g; h is the block's whole field
+unfoldable pub fragments-by : (directly : Bool) → (List ℕ → Ops) → List ℕ → Ops
+fragments-by directly g h = each-from (λ f. each-from g 3 f ++ behind-fragment directly) 3 h
+
+-- an indented block
+unfoldable pub indented-by : (List ℕ → Ops) → List ℕ → Ops
+indented-by g h = indent ∷ ((break a-newline ∷ fragments-by true g h) ++ (unindent ∷ []))
+
+-- a node, and a fragment's nodes from `from` on, with at most `left` blocks inside each other
+unfoldable pub node-in : (left : ℕ) → (directly : Bool) → List ℕ → Ops
+node-in zero directly h = node-by directly [] [] h
+node-in (suc left) directly h = node-by directly (indented-by (node-in left true) h) (fragments-by false (node-in left false) h) h
+
+-- what a 3 gives
+unfoldable pub three-in : (left : ℕ) → List ℕ → Ops
+three-in zero h = []
+three-in (suc left) h = indented-by (node-in left true) h
+
+unfoldable pub fragment-in : (left : ℕ) → (directly : Bool) → (from : ℕ) → List ℕ → Ops
+fragment-in left directly from s = each-from (node-in left directly) from s

@@ -1,0 +1,124 @@
+// Texts and anchors: nodes that are no blocks.
+use crate::pen::Pen;
+use crate::pen::interpret;
+use fields::Field;
+use fields::field_at;
+use lines::Break;
+use lines::LineOp;
+use parts::field_end;
+use texts::first_line_end;
+ghost use Prim.Native.Nat.{_<_, _^_};
+ghost use Rattle.rules.specs.Bytes.{newline};
+ghost use Rattle.rules.specs.Lines.{text-ops};
+ghost use Rattle.pages.specs.OpsIn.{run-in, run-field-in, each-from, anchor-in, if-block-in, leaf-in};
+ghost use Rattle.pages.specs.Ran.{Rendered};
+
+// The bytes of a text: the part before the first newline, then for each later part a new line and the part.
+fn render_bytes(v: &[u8], page: &mut [u8], pen: Pen) -> Pen
+    requires { ⌜ pen .machine .indent < 2 ^ 32 ⌝ }
+    ensures { λ r. ⌜ Rendered (text-ops newline (now (v .entry))) pen (now (page .entry)) r (now (page .exit)) ⌝ }
+{
+    let mut at = first_line_end(v);
+    let mut p = interpret(page, pen, LineOp::AppendToLine, &v[..at]);
+    while at < v.len() {
+        let from = at + 1;
+        let to = from + first_line_end(&v[from..]);
+        p = interpret(page, p, LineOp::StartNewLine, b"");
+        p = interpret(page, p, LineOp::AppendToLine, &v[from..to]);
+        at = to;
+    }
+    p
+}
+
+// The value of a 1: a 17, or a 16 and a 17.
+fn render_text(v: &[u8], page: &mut [u8], pen: Pen) -> Pen
+    requires { ⌜ pen .machine .indent < 2 ^ 32 ⌝ }
+    ensures { λ r. ⌜ Rendered (run-in (now (v .entry))) pen (now (page .entry)) r (now (page .exit)) ⌝ }
+{
+    let Field::Whole { tag, from, to } = field_at(v, 0) else {
+        return pen;
+    };
+    if tag != 16 {
+        return render_bytes(&v[from..to], page, pen);
+    }
+    let Field::Whole {
+        tag: t,
+        from: f,
+        to: e,
+    } = field_at(v, to)
+    else {
+        return pen;
+    };
+    let pushed = interpret(page, pen, LineOp::PushStyles, &v[from..to]);
+    let inside = render_bytes(&v[f..e], page, pushed);
+    interpret(page, inside, LineOp::PopStyles, &v[from..to])
+}
+
+// A field of a 2 behind its name.
+fn render_run(h: &[u8], page: &mut [u8], pen: Pen) -> Pen
+    requires { ⌜ pen .machine .indent < 2 ^ 32 ⌝ }
+    ensures { λ r. ⌜ Rendered (run-field-in (now (h .entry))) pen (now (page .entry)) r (now (page .exit)) ⌝ }
+{
+    if h.len() < 3 {
+        return pen;
+    }
+    render_text(&h[3..], page, pen)
+}
+
+// The fields of a 2 from `from` on.
+fn render_runs(v: &[u8], from: usize, page: &mut [u8], pen: Pen) -> Pen
+    requires { ⌜ pen .machine .indent < 2 ^ 32 ⌝ }
+    ensures { λ r. ⌜ Rendered (each-from run-field-in from (now (v .entry))) pen (now (page .entry)) r (now (page .exit)) ⌝ }
+{
+    let mut p = pen;
+    let mut at = from;
+    while at < v.len() {
+        let to = field_end(v, at);
+        p = render_run(&v[at..to], page, p);
+        at = to;
+    }
+    p
+}
+
+// The value of a 2: without runs, one empty anchor.
+fn render_anchor(v: &[u8], page: &mut [u8], pen: Pen) -> Pen
+    requires { ⌜ pen .machine .indent < 2 ^ 32 ⌝ }
+    ensures { λ r. ⌜ Rendered (anchor-in (now (v .entry))) pen (now (page .entry)) r (now (page .exit)) ⌝ }
+{
+    let Field::Whole { tag, from, to } = field_at(v, 0) else {
+        return pen;
+    };
+    let is_def = tag == 18;
+    if v.len() <= to {
+        return interpret(page, pen, LineOp::EmptyAnchor { is_def }, &v[from..to]);
+    }
+    let pushed = interpret(page, pen, LineOp::PushAnchor { is_def }, &v[from..to]);
+    let inside = render_runs(v, to, page, pushed);
+    interpret(page, inside, LineOp::PopAnchor, b"")
+}
+
+// The value of a 7, which counts only directly in a block.
+fn render_if_block(v: &[u8], page: &mut [u8], pen: Pen, directly_in_block: bool) -> Pen
+    requires { ⌜ pen .machine .indent < 2 ^ 32 ⌝ }
+    ensures { λ r. ⌜ Rendered (if-block-in «directly_in_block» (now (v .entry))) pen (now (page .entry)) r (now (page .exit)) ⌝ }
+{
+    if directly_in_block {
+        return render_bytes(v, page, pen);
+    }
+    pen
+}
+
+// A node that is no block, by its tag.
+pub fn render_leaf(tag: u8, v: &[u8], page: &mut [u8], pen: Pen, directly_in_block: bool) -> Pen
+    requires { ⌜ pen .machine .indent < 2 ^ 32 ⌝ }
+    ensures { λ r. ⌜ Rendered (leaf-in «directly_in_block» tag (now (v .entry))) pen (now (page .entry)) r (now (page .exit)) ⌝ }
+{
+    match tag {
+        1 => render_text(v, page, pen),
+        2 => render_anchor(v, page, pen),
+        5 => interpret(page, pen, LineOp::BreakIfWithinLine(Break::Space), b""),
+        6 => interpret(page, pen, LineOp::BreakIfWithinLine(Break::NewLine), b""),
+        7 => render_if_block(v, page, pen, directly_in_block),
+        _ => pen,
+    }
+}

@@ -1,0 +1,100 @@
+// The walk: a node, a block's fragments, a fragment's nodes. They call each other, with one block less left each time round.
+use crate::leaves::render_leaf;
+use crate::pen::Pen;
+use crate::pen::interpret;
+use lines::Break;
+use lines::LineOp;
+use parts::field_end;
+ghost use Prim.Native.Nat.{_+_, _<_, _^_};
+ghost use Rattle.pages.specs.OpsIn.{behind-fragment, fragments-by, three-in, node-in, fragment-in};
+ghost use Rattle.pages.specs.Ran.{Rendered};
+
+// A node, whose whole field is s.
+fn render_node(s: &[u8], page: &mut [u8], pen: Pen, directly_in_block: bool, left: usize) -> Pen
+    requires { ⌜ pen .machine .indent + left < 2 ^ 32 ⌝ }
+    ensures { λ r. ⌜ Rendered (node-in left «directly_in_block» (now (s .entry))) pen (now (page .entry)) r (now (page .exit)) ⌝ }
+{
+    if s.len() < 3 {
+        return pen;
+    }
+    let tag = s[0];
+    if tag == 3 {
+        return render_indented(s, page, pen, left);
+    }
+    if tag == 4 {
+        if left == 0 {
+            return pen;
+        }
+        return render_fragments(s, page, pen, false, left - 1);
+    }
+    render_leaf(tag, &s[3..], page, pen, directly_in_block)
+}
+
+// An indented block, whose whole field is s.
+fn render_indented(s: &[u8], page: &mut [u8], pen: Pen, left: usize) -> Pen
+    requires { ⌜ pen .machine .indent + left < 2 ^ 32 ⌝ }
+    ensures { λ r. ⌜ Rendered (three-in left (now (s .entry))) pen (now (page .entry)) r (now (page .exit)) ⌝ }
+{
+    if left == 0 {
+        return pen;
+    }
+    let pushed = interpret(page, pen, LineOp::PushIndent, b"");
+    let broken = interpret(page, pushed, LineOp::BreakIfWithinLine(Break::NewLine), b"");
+    let inside = render_fragments(s, page, broken, true, left - 1);
+    interpret(page, inside, LineOp::PopIndent, b"")
+}
+
+// Behind a fragment of an indented block the line ends.
+fn end_fragment(page: &mut [u8], pen: Pen, directly_in_block: bool) -> Pen
+    requires { ⌜ pen .machine .indent < 2 ^ 32 ⌝ }
+    ensures { λ r. ⌜ Rendered (behind-fragment «directly_in_block») pen (now (page .entry)) r (now (page .exit)) ⌝ }
+{
+    if directly_in_block {
+        return interpret(page, pen, LineOp::BreakIfWithinLine(Break::NewLine), b"");
+    }
+    pen
+}
+
+// A block's fragments, one after the other; s is the block's whole field.
+fn render_fragments(
+    s: &[u8],
+    page: &mut [u8],
+    pen: Pen,
+    directly_in_block: bool,
+    left: usize,
+) -> Pen
+    requires { ⌜ pen .machine .indent + left < 2 ^ 32 ⌝ }
+    ensures { λ r. ⌜ Rendered (fragments-by «directly_in_block» (node-in left «directly_in_block») (now (s .entry))) pen (now (page .entry)) r (now (page .exit)) ⌝ }
+{
+    let mut p = pen;
+    let mut at = 3;
+    while at < s.len() {
+        let to = field_end(s, at);
+        p = render_fragment(&s[at..to], 3, page, p, directly_in_block, left);
+        p = end_fragment(page, p, directly_in_block);
+        at = to;
+    }
+    p
+}
+
+// A fragment's nodes, from `from` on.
+pub fn render_fragment(
+    s: &[u8],
+    from: usize,
+    page: &mut [u8],
+    pen: Pen,
+    directly_in_block: bool,
+    left: usize,
+) -> Pen
+    requires { ⌜ pen .machine .indent + left < 2 ^ 32 ⌝ }
+    ensures { λ r. ⌜ Rendered (fragment-in left «directly_in_block» from (now (s .entry))) pen (now (page .entry)) r (now (page .exit)) ⌝ }
+{
+    let mut p = pen;
+    let mut at = from;
+    while at < s.len() {
+        let to = field_end(s, at);
+        p = render_node(&s[at..to], page, p, directly_in_block, left);
+        at = to;
+    }
+    p
+}

@@ -1,0 +1,2 @@
+-- The page keeps its length.
+pub mod Lent

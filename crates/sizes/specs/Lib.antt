@@ -1,0 +1,2 @@
+-- What the contracts say of the table of em sizes.
+pub mod Table

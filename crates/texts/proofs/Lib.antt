@@ -1,0 +1,2 @@
+-- The loop over a text's first line.
+pub mod Passing

@@ -1,0 +1,2 @@
+-- A text's first line.
+pub mod FirstLine
