@@ -28,6 +28,10 @@ uint64_t hazomeny_layout(uint8_t *file, size_t length, size_t width);
  * that is too short is refused by 10 with the bytes needed, so that `room` 0 measures. A refusal changes no byte. */
 uint64_t hazomeny_plain(const uint8_t *file, size_t length, uint8_t *page, size_t room);
 
+/* The HTML body, one `pre` element, and the whole HTML document: otherwise as the plain page. */
+uint64_t hazomeny_html_body(const uint8_t *file, size_t length, uint8_t *page, size_t room);
+uint64_t hazomeny_html_document(const uint8_t *file, size_t length, uint8_t *page, size_t room);
+
 #ifdef __cplusplus
 }
 #endif

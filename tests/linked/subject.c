@@ -5,7 +5,7 @@
 #include <stdlib.h>
 #include <string.h>
 
-enum { HEADER = 11, CHECK = 0, LAYOUT = 1, PLAIN = 2 };
+enum { HEADER = 11, CHECK = 0, LAYOUT = 1, PLAIN = 2, BODY = 3, DOCUMENT = 4 };
 
 /* What a page is lent filled with: of it a refusal changes nothing, and a page only what it covers. */
 enum { PATTERN = 0xa5 };
@@ -52,6 +52,8 @@ static void answer(const uint8_t *header, uint8_t *file, size_t length) {
     case CHECK: respond(hazomeny_check(file, length), file, 0); break; /* nothing is lent */
     case LAYOUT: respond(hazomeny_layout(file, length, width), file, length); break;
     case PLAIN: answer_page(hazomeny_plain, file, length, room); break;
+    case BODY: answer_page(hazomeny_html_body, file, length, room); break;
+    case DOCUMENT: answer_page(hazomeny_html_document, file, length, room); break;
     default: stop("no such operation");
     }
 }

@@ -1,5 +1,5 @@
 -- Every answer fits 64 bits: places and counts are at most a file's length, and a page is shorter than 2^50 bytes.
-use mathlib.Core.Path.{_≡_, refl, _∙_, ap}
+use mathlib.Core.Path.{_≡_, refl, sym, subst, _∙_, ap}
 use mathlib.Core.List.{List}
 use mathlib.Core.Bool.{Bool, true, false}
 use Prim.Native.Nat.{ℕ, _^_, _<_}
@@ -14,9 +14,11 @@ use Rattle.rules.specs.Encode.{encode}
 use Rattle.rules.specs.Layout.{layout}
 use Rattle.rules.specs.Good.{Bytes, GoodTree}
 use Rattle.rules.specs.Plain.{plain, fill}
-use Rattle.rules.specs.Answers.{itself, tree, laid-out, left-laid, layout-outcome, written, left-page, plain-text, plain-outcome, coded, coded-outcome}
-use Rattle.rules.proofs.Files.{tree-read}
+use Rattle.rules.specs.Html.{escape, body, document}
+use Rattle.rules.specs.Answers.{itself, tree, laid-out, left-laid, layout-outcome, written, left-page, plain-text, plain-outcome, body-text, body-outcome, document-text, document-outcome, coded, coded-outcome}
+use Rattle.rules.proofs.Files.{Read, tree-read}
 use Rattle.pages.proofs.PageLengths.{plain-short}
+use Rattle.pages.proofs.HtmlLengths.{body-short, document-short}
 use Rattle.rules.proofs.Refused.{coded-refused}
 use Rattle.layout.proofs.Counted.{changed-le}
 
@@ -37,18 +39,28 @@ coded-written true text page h = omega arith
 coded-written false text page h = omega arith
 
 -- a page whose texts have an end
-coded-page : (text : Frag ℕ → List ℕ) → ((t : Frag ℕ) → GoodTree t → length (text t) < 2 ^ 50) → (s page : List ℕ) → Bytes s
+coded-page : (text : Frag ℕ → List ℕ) → ((t : Frag ℕ) → GoodTree t → Bytes (encode t) → length (text t) < 2 ^ 50) → (s page : List ℕ) → Bytes s
     → coded (left-page (tree s >>= (λ t. accepted (text t))) page .0) < 2 ^ 64
 unfolding left-page coded _>>=_
 coded-page text short s page b = go (tree s) refl
   where
     go : (x : Result (Frag ℕ)) → tree s ≡ x → coded (left-page (x >>= (λ t. accepted (text t))) page .0) < 2 ^ 64
     go (refused n p) f = coded-refused s n p f
-    go (accepted t) f = coded-written (leb (length (text t)) (length page)) (text t) page (short t (tree-read s t b f .good))
+    go (accepted t) f =
+        let R : Read s t = tree-read s t b f in
+        coded-written (leb (length (text t)) (length page)) (text t) page (short t (R .good) (subst Bytes (sym (R .encodes)) b))
 
 pub coded-plain : (s page : List ℕ) → Bytes s → coded (plain-outcome s page .0) < 2 ^ 64
 unfolding plain-outcome plain-text _>>=_
-coded-plain s page b = coded-page (λ t. fill itself (plain newline t)) plain-short s page b
+coded-plain s page b = coded-page (λ t. fill itself (plain newline t)) (λ t G b. plain-short t G) s page b
+
+pub coded-body : (s page : List ℕ) → Bytes s → coded (body-outcome s page .0) < 2 ^ 64
+unfolding body-outcome body-text _>>=_
+coded-body s page b = coded-page (λ t. fill itself (body escape newline t)) body-short s page b
+
+pub coded-document : (s page : List ℕ) → Bytes s → coded (document-outcome s page .0) < 2 ^ 64
+unfolding document-outcome document-text _>>=_
+coded-document s page b = coded-page (λ t. fill itself (document escape newline t)) document-short s page b
 
 -- an answer and the bytes left, said so
 pub coded-pair : (x : Result ℕ × List ℕ) {a : Result ℕ} {s : List ℕ} {r : ℕ} → r ≡ coded a → (a, s) ≡ x → (r, s) ≡ coded-outcome x

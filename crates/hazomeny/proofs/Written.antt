@@ -9,7 +9,7 @@ use lib.ListN.{length, take, drop, length-take, length-append}
 use Rattle.rules.specs.declared.Answer.{Answer}
 use Rattle.rules.specs.declared.Answer.the-variants.{Done}
 use Rattle.rules.specs.Result.{Result, refused, accepted, said}
-use Rattle.rules.specs.Answers.{written, left-page, plain-text, plain-outcome}
+use Rattle.rules.specs.Answers.{written, left-page, plain-text, plain-outcome, document-text, document-outcome}
 use Rattle.rules.proofs.Chains.{no-path}
 
 answer-differs : {n m p : ℕ} {s t : List ℕ} → _≡_ {A = Result ℕ × List ℕ} (accepted n, s) (refused m p, t) → ⊥
@@ -31,10 +31,19 @@ unfolding left-page
 in-left-page (refused m p) page e = absurd (answer-differs e)
 in-left-page (accepted text) page e = in-page (leb (length text) (length page)) text page e
 
-pub plain-within : (s page : List ℕ) (a : Answer) {n : ℕ} {page′ : List ℕ} → a ≡ Done n → (said a, page′) ≡ plain-outcome s page → n ≤ length page′
-unfolding plain-outcome said
-plain-within s page a q e = in-left-page (plain-text s) page (rw q at e)
+-- an entry's count is within its page, so as many bytes can be taken from the page's start
+pub record InPage (n : ℕ) (page : List ℕ) : Type 0 where
+  pub within : n ≤ length page
+  pub taken : n ≡ length (take n page)
 
--- so as many can be taken from its start
-pub plain-taken : (s page : List ℕ) (a : Answer) {n : ℕ} {page′ : List ℕ} → a ≡ Done n → (said a, page′) ≡ plain-outcome s page → n ≡ length (take n page′)
-plain-taken s page a {n} {page′} q e = omega (arith, plain-within s page a q e, length-take n page′)
+in-page-so : {n : ℕ} {page : List ℕ} → n ≤ length page → InPage n page
+in-page-so {n} {page} h = record { within = h; taken = omega (arith, length-take n page) }
+
+module _ (s page : List ℕ) (a : Answer) {n : ℕ} {page′ : List ℕ} (q : a ≡ Done n) where
+  pub plain-in-page : (said a, page′) ≡ plain-outcome s page → InPage n page′
+  unfolding plain-outcome said
+  plain-in-page e = in-page-so (in-left-page (plain-text s) page (rw q at e))
+
+  pub document-in-page : (said a, page′) ≡ document-outcome s page → InPage n page′
+  unfolding document-outcome said
+  document-in-page e = in-page-so (in-left-page (document-text s) page (rw q at e))

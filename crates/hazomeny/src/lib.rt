@@ -2,12 +2,13 @@
 // names take numbers and slices and answer in one number (`coded` of rules).
 use answers::in_one;
 use layout::whole::layout_with_max_line_width;
-use pages::whole::render_plain;
+use pages::frame::Kind;
+use pages::whole::render_page;
 use rules::Answer;
 use verify::walk::check;
 ghost use mathlib.Core.Path.{_≡_};
 ghost use Rattle.rules.specs.Result.{said};
-ghost use Rattle.rules.specs.Answers.{check-answer, layout-outcome, plain-outcome, coded, coded-outcome};
+ghost use Rattle.rules.specs.Answers.{check-answer, layout-outcome, plain-outcome, body-outcome, document-outcome, coded, coded-outcome};
 
 // The file check: accepted with 0, or the first fault's number and place.
 pub fn check_file(file: &[u8]) -> Answer
@@ -42,7 +43,7 @@ pub extern "C" fn hazomeny_layout(file: &mut [u8], width: usize) -> u64
 pub fn plain_page(file: &[u8], page: &mut [u8]) -> Answer
     ensures { λ r. ⌜ (said r, now (page .exit)) ≡ plain-outcome (now (file .entry)) (now (page .entry)) ⌝ }
 {
-    render_plain(file, page)
+    render_page(Kind::Plain, file, page)
 }
 
 #[no_mangle]
@@ -50,4 +51,32 @@ pub extern "C" fn hazomeny_plain(file: &[u8], page: &mut [u8]) -> u64
     ensures { λ r. ⌜ (r, now (page .exit)) ≡ coded-outcome (plain-outcome (now (file .entry)) (now (page .entry))) ⌝ }
 {
     in_one(plain_page(file, page))
+}
+
+// The HTML body: one `pre` element. Otherwise as the plain page.
+pub fn html_body(file: &[u8], page: &mut [u8]) -> Answer
+    ensures { λ r. ⌜ (said r, now (page .exit)) ≡ body-outcome (now (file .entry)) (now (page .entry)) ⌝ }
+{
+    render_page(Kind::Body, file, page)
+}
+
+#[no_mangle]
+pub extern "C" fn hazomeny_html_body(file: &[u8], page: &mut [u8]) -> u64
+    ensures { λ r. ⌜ (r, now (page .exit)) ≡ coded-outcome (body-outcome (now (file .entry)) (now (page .entry))) ⌝ }
+{
+    in_one(html_body(file, page))
+}
+
+// The HTML document: the body in its frame, with the one style element. Otherwise as the plain page.
+pub fn html_document(file: &[u8], page: &mut [u8]) -> Answer
+    ensures { λ r. ⌜ (said r, now (page .exit)) ≡ document-outcome (now (file .entry)) (now (page .entry)) ⌝ }
+{
+    render_page(Kind::Document, file, page)
+}
+
+#[no_mangle]
+pub extern "C" fn hazomeny_html_document(file: &[u8], page: &mut [u8]) -> u64
+    ensures { λ r. ⌜ (r, now (page .exit)) ≡ coded-outcome (document-outcome (now (file .entry)) (now (page .entry))) ⌝ }
+{
+    in_one(html_document(file, page))
 }

@@ -4,8 +4,11 @@ pub mod OfLeaves
 pub mod OfTrees
 pub mod ItemCosts
 pub mod PageLengths
+pub mod StyleLengths
+pub mod HtmlLengths
 pub mod Running
 pub mod Pens
+pub mod Frames
 pub mod Going
 pub mod TextLines
 pub mod LeafLaws

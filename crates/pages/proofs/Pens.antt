@@ -1,20 +1,27 @@
 -- What the pen writes: a waiting break, a line's spaces, an operation's own bytes, and all of one operation.
 use mathlib.Core.Path.{_≡_, refl, ap, _∙_}
-use mathlib.Core.List.{List, [], _∷_, _++_, append-nil}
+use mathlib.Core.List.{List, [], _∷_, _++_, map, append-nil}
 use mathlib.Core.Bool.{Bool, true, false}
 use Prim.Native.Nat.{ℕ}
 use lib.ListN.{replicate}
 use Rattle.rules.specs.Bytes.{if_then_else_}
-use Rattle.rules.specs.Lines.{Item, making, step, run}
+use Rattle.rules.specs.Lines.{Mark, push, pop, open-anchor, close-anchor, Item, char, marked, copied, making, step, run}
 use Rattle.rules.specs.Plain.{chars, fill}
+use Rattle.rules.specs.Html.{escape, open-tag, close-tag, makes, mark-html, item-html, items-html}
+use Rattle.rules.specs.Answers.{itself}
+use Rattle.styles.specs.declared.Styles as S
+use Rattle.styles.specs.Said.{said-styles}
+use Rattle.styles.specs.StylesIn.{styles-in}
 use Rattle.writing.specs.Written.{Written}
 use Rattle.writing.specs.Laws as writing
+use Rattle.lines.specs.declared.Break.{Break}
 use Rattle.lines.specs.declared.Waiting as W
 use Rattle.lines.specs.declared.LineOp as O
 use Rattle.lines.specs.declared.Before.{Before}
 use Rattle.lines.specs.declared.Stepped.{Stepped}
 use Rattle.lines.specs.Said.{machine-of, break-bytes, spacing-bytes, before-bytes, step-of, operation, copies, own}
 use Rattle.pages.specs.Ran.{shown, after, machine, Interpreted}
+use Rattle.pages.specs.declared.pen.Form as F
 use Rattle.pages.specs.declared.pen.Pen.{Pen}
 use Rattle.pages.proofs.Running.{shown-append}
 
@@ -45,19 +52,14 @@ pub all-before : {page page₁ page₂ page₃ : List ℕ} {at b₁ b₂ b₃ : 
 unfolding before-bytes spacing-bytes
 all-before b f g h = writing.then f (writing.then g h)
 
--- ---- an operation's own bytes
+-- ---- an operation's own bytes on a plain page
 
-shown-making : (bs : List ℕ) → shown (making bs) ≡ bs
-unfolding shown making chars fill
-shown-making [] = refl
-shown-making (b ∷ bs) = ap (λ (s : List ℕ). b ∷ s) (shown-making bs)
-
-shown-copies : (v : List ℕ) → shown (copies v) ≡ v
+shown-copies : (v : List ℕ) → shown F.the-variants.Plain (copies v) ≡ v
 unfolding shown copies chars fill
 shown-copies [] = refl
 shown-copies (b ∷ v) = ap (λ (s : List ℕ). b ∷ s) (shown-copies v)
 
-other-own : (op : O.LineOp) (v : List ℕ) → (op ≡ O.the-variants.AppendToLine → ⊥) → shown (own op v) ≡ []
+other-own : (op : O.LineOp) (v : List ℕ) → (op ≡ O.the-variants.AppendToLine → ⊥) → shown F.the-variants.Plain (own op v) ≡ []
 unfolding own shown chars fill
 other-own O.the-variants.PushIndent v n = refl
 other-own O.the-variants.PopIndent v n = refl
@@ -71,27 +73,116 @@ other-own O.the-variants.StartNewLine v n = refl
 other-own (O.the-variants.BreakIfWithinLine b) v n = refl
 
 module _ (op : O.LineOp) (v : List ℕ) {page : List ℕ} {at : ℕ} where
-  pub shows-nothing : (op ≡ O.the-variants.AppendToLine → ⊥) → Written page at (shown (own op v)) page at
+  pub shows-nothing : (op ≡ O.the-variants.AppendToLine → ⊥) → Written page at (shown F.the-variants.Plain (own op v)) page at
   shows-nothing n = rw (other-own op v n) writing.nothing
 
-  pub shows-part : {page′ : List ℕ} {r : ℕ} → op ≡ O.the-variants.AppendToLine → Written page at v page′ r → Written page at (shown (own op v)) page′ r
+  pub shows-part : {page′ : List ℕ} {r : ℕ} → op ≡ O.the-variants.AppendToLine → Written page at v page′ r → Written page at (shown F.the-variants.Plain (own op v)) page′ r
   unfolding own
   shows-part e f = rw (e, shown-copies v) f
 
+-- ---- in HTML
+
+abbrev html : List (Item ℕ) → List ℕ
+html is = shown F.the-variants.Html is
+
+-- one mark
+html-mark : (k : Mark ℕ) → html (marked k ∷ []) ≡ fill itself (mark-html k)
+unfolding shown items-html item-html
+html-mark k = ap (fill itself) (append-nil (mark-html k))
+
+pub fill-makes : (bs : List ℕ) → fill itself (makes bs) ≡ bs
+unfolding fill makes
+fill-makes [] = refl
+fill-makes (b ∷ bs) = ap (λ (s : List ℕ). b ∷ s) (fill-makes bs)
+
+module _ (op : O.LineOp) (v : List ℕ) {page page′ : List ℕ} {at r : ℕ} where
+  pub shows-push : op ≡ O.the-variants.PushStyles → (st : S.Styles) → said-styles st ≡ styles-in v → Written page at (open-tag (said-styles st)) page′ r → Written page at (html (own op v)) page′ r
+  unfolding own mark-html
+  shows-push e st q f = rw (e, html-mark (push (styles-in v)), fill-makes (open-tag (styles-in v)), ← q) f
+
+  pub shows-pop : op ≡ O.the-variants.PopStyles → (st : S.Styles) → said-styles st ≡ styles-in v → Written page at (close-tag (said-styles st)) page′ r → Written page at (html (own op v)) page′ r
+  unfolding own mark-html
+  shows-pop e st q f = rw (e, html-mark (pop (styles-in v)), fill-makes (close-tag (styles-in v)), ← q) f
+
+  pub shows-open : {d : Bool} → op ≡ O.the-variants.PushAnchor d → Written page at (fill itself (mark-html (open-anchor d v))) page′ r → Written page at (html (own op v)) page′ r
+  unfolding own
+  shows-open {d} e f = rw (e, html-mark (open-anchor d v)) f
+
+  pub shows-close : op ≡ O.the-variants.PopAnchor → Written page at (fill itself (mark-html {X = ℕ} close-anchor)) page′ r → Written page at (html (own op v)) page′ r
+  unfolding own
+  shows-close e f = rw (e, html-mark close-anchor) f
+
+  pub shows-empty : {d : Bool} → op ≡ O.the-variants.EmptyAnchor d → Written page at (html (own (O.the-variants.EmptyAnchor d) v)) page′ r → Written page at (html (own op v)) page′ r
+  shows-empty e f = rw e f
+
+  pub shows-escaped : op ≡ O.the-variants.AppendToLine → Written page at (fill itself (items-html escape (map (λ y. char (copied y)) v))) page′ r
+      → Written page at (html (own op v)) page′ r
+  unfolding own shown copies
+  shows-escaped e f = rw e f
+
+-- operations that show nothing
+module _ (op : O.LineOp) (v : List ℕ) {page : List ℕ} {at : ℕ} where
+  pub shows-no-indent : op ≡ O.the-variants.PushIndent → Written page at (html (own op v)) page at
+  unfolding own shown items-html fill
+  shows-no-indent e = rw e writing.nothing
+
+  pub shows-no-outdent : op ≡ O.the-variants.PopIndent → Written page at (html (own op v)) page at
+  unfolding own shown items-html fill
+  shows-no-outdent e = rw e writing.nothing
+
+  pub shows-no-line : op ≡ O.the-variants.StartNewLine → Written page at (html (own op v)) page at
+  unfolding own shown items-html fill
+  shows-no-line e = rw e writing.nothing
+
+  pub shows-no-break : {b : Break} → op ≡ O.the-variants.BreakIfWithinLine b → Written page at (html (own op v)) page at
+  unfolding own shown items-html fill
+  shows-no-break e = rw e writing.nothing
+
+pub shows-both : (v : List ℕ) (d : Bool) {page page₁ page₂ : List ℕ} {at b r : ℕ} → Written page at (fill itself (mark-html (open-anchor d v))) page₁ b
+    → Written page₁ b (fill itself (mark-html {X = ℕ} close-anchor)) page₂ r → Written page at (html (own (O.the-variants.EmptyAnchor d) v)) page₂ r
+unfolding own
+shows-both v d f g =
+    rw (shown-append F.the-variants.Html (marked (open-anchor d v) ∷ []) (marked close-anchor ∷ []), html-mark (open-anchor d v), html-mark close-anchor) (writing.then f g)
+
+-- ---- by the form
+
+module _ {form : F.Form} (is : List (Item ℕ)) {page page′ : List ℕ} {at r : ℕ} where
+  pub in-plain : form ≡ F.the-variants.Plain → Written page at (shown F.the-variants.Plain is) page′ r → Written page at (shown form is) page′ r
+  in-plain e f = rw e f
+
+  pub in-html : form ≡ F.the-variants.Html → Written page at (shown F.the-variants.Html is) page′ r → Written page at (shown form is) page′ r
+  in-html e f = rw e f
+
 -- ---- one operation
+
+made-chars : (bs : List ℕ) → fill itself (chars (making bs)) ≡ bs
+unfolding making chars fill
+made-chars [] = refl
+made-chars (b ∷ bs) = ap (λ (s : List ℕ). b ∷ s) (made-chars bs)
+
+made-html : (bs : List ℕ) → fill itself (items-html escape (making bs)) ≡ bs
+unfolding making items-html item-html fill
+made-html [] = refl
+made-html (b ∷ bs) = ap (λ (s : List ℕ). b ∷ s) (made-html bs)
+
+shown-making : (f : F.Form) (bs : List ℕ) → shown f (making bs) ≡ bs
+unfolding shown
+shown-making F.the-variants.Plain bs = made-chars bs
+shown-making F.the-variants.Html bs = made-html bs
 
 pub one-operation : (op : O.LineOp) (v : List ℕ) {p p′ : Pen} {page page₁ page₂ : List ℕ} {b : ℕ} (s : Stepped)
     → step-of s (own op v) ≡ step (machine-of (p .machine)) (operation op v)
-    → Written page (p .at) (before-bytes (s .before)) page₁ b → Written page₁ b (shown (own op v)) page₂ (p′ .at) → p′ .machine ≡ s .machine
+    → Written page (p .at) (before-bytes (s .before)) page₁ b → Written page₁ b (shown (p .form) (own op v)) page₂ (p′ .at) → p′ .machine ≡ s .machine → p′ .form ≡ p .form
     → Interpreted op v p page p′ page₂
 unfolding step-of after run
-one-operation op v {p} {p′} s e f g is =
+one-operation op v {p} {p′} s e f g is form =
     let items : List (Item ℕ) = making (before-bytes (s .before)) ++ own op v in
-    let shows : shown (items ++ []) ≡ before-bytes (s .before) ++ shown (own op v) =
-    rw (append-nil items, shown-append (making (before-bytes (s .before))) (own op v), shown-making (before-bytes (s .before))) in
+    let shows : shown (p .form) (items ++ []) ≡ before-bytes (s .before) ++ shown (p .form) (own op v) =
+    rw (append-nil items, shown-append (p .form) (making (before-bytes (s .before))) (own op v), shown-making (p .form) (before-bytes (s .before))) in
     record {
       ran = record {
         machine-then = ap machine-of is ∙ ap (λ x. x .1) e;
         written = rw (← (ap (λ x. x .0) e), shows) (writing.then f g);
+        form-kept = form;
       };
     }

@@ -5,8 +5,9 @@ use mathlib.Core.Bool.{Bool, true, false}
 use Prim.Native.Nat.{ℕ, suc, pred}
 use lib.ListN.{length}
 use Rattle.rules.specs.Lines as rules
-use Rattle.rules.specs.Lines.{Machine, Item, char, made, copied, marked, LineOp, part, mark, push, pop, open-anchor, close-anchor, empty-anchor, new-line, break, step, run, item, broken, ignored}
+use Rattle.rules.specs.Lines.{Machine, Out, Item, char, made, copied, marked, LineOp, part, mark, push, pop, open-anchor, close-anchor, empty-anchor, new-line, break, step, run, item, broken, ignored}
 use Rattle.rules.specs.Plain.{chars, fill}
+use Rattle.rules.specs.Html.{escape, item-html, items-html}
 use Rattle.rules.specs.Answers.{itself}
 use Rattle.writing.specs.Laws as writing
 use Rattle.lines.specs.Said.{machine-of, break-of, operation}
@@ -15,6 +16,7 @@ use Rattle.styles.specs.StylesIn.{styles-in}
 use Rattle.lines.specs.declared.LineOp.the-variants as Op
 use Rattle.pages.specs.OpsIn.{Ops}
 use Rattle.pages.specs.Ran.{shown, after, machine, Ran, Interpreted, Rendered}
+use Rattle.pages.specs.declared.pen.Form as F
 use Rattle.pages.specs.declared.pen.Pen.{Pen}
 
 -- ---- what items show
@@ -26,9 +28,23 @@ chars-append (char (made b) ∷ xs) ys = ap (λ (s : List ℕ). b ∷ s) (chars-
 chars-append (char (copied x) ∷ xs) ys = ap (λ (s : List ℕ). x ∷ s) (chars-append xs ys)
 chars-append (marked k ∷ xs) ys = chars-append xs ys
 
-pub shown-append : (xs ys : List (Item ℕ)) → shown (xs ++ ys) ≡ shown xs ++ shown ys
+pub fill-append : (os ps : List (Out ℕ)) → fill itself (os ++ ps) ≡ fill itself os ++ fill itself ps
+unfolding fill
+fill-append [] ps = refl
+fill-append (made b ∷ os) ps = ap (λ (s : List ℕ). b ∷ s) (fill-append os ps)
+fill-append (copied x ∷ os) ps = ap (λ (s : List ℕ). x ∷ s) (fill-append os ps)
+
+html-append : (xs ys : List (Item ℕ)) → items-html escape (xs ++ ys) ≡ items-html escape xs ++ items-html escape ys
+unfolding items-html
+html-append [] ys = refl
+html-append (x ∷ xs) ys =
+    ap (λ (os : List (Out ℕ)). item-html escape x ++ os) (html-append xs ys)
+    ∙ sym (append-assoc (item-html escape x) (items-html escape xs) (items-html escape ys))
+
+pub shown-append : (f : F.Form) (xs ys : List (Item ℕ)) → shown f (xs ++ ys) ≡ shown f xs ++ shown f ys
 unfolding shown
-shown-append = chars-append
+shown-append F.the-variants.Plain xs ys = chars-append xs ys
+shown-append F.the-variants.Html xs ys = ap (fill itself) (html-append xs ys) ∙ fill-append (items-html escape xs) (items-html escape ys)
 
 -- ---- operations in a row
 
@@ -50,15 +66,22 @@ module _ {p p′ p″ : Pen} {page page′ page″ : List ℕ} {xs ys : Ops} whe
       let m = machine p in
       record {
         machine-then = g .machine-then ∙ rw (f .machine-then, after-append m xs ys);
-        written = rw (run-append m xs ys, shown-append (run m xs) (run (after m xs) ys)) (writing.then (f .written) (rw (f .machine-then) at (g .written)));
+        written = rw (run-append m xs ys, shown-append (p .form) (run m xs) (run (after m xs) ys))
+            (writing.then (f .written) (rw (f .machine-then, f .form-kept) at (g .written)));
+        form-kept = g .form-kept ∙ f .form-kept;
       }
 
   pub and-then : Rendered xs p page p′ page′ → Rendered ys p′ page′ p″ page″ → Rendered (xs ++ ys) p page p″ page″
   and-then f g = record { ran = then-ran (f .ran) (g .ran); indent-kept = g .indent-kept ∙ f .indent-kept }
 
+shown-nothing : (f : F.Form) → shown f [] ≡ []
+unfolding shown chars items-html fill
+shown-nothing F.the-variants.Plain = refl
+shown-nothing F.the-variants.Html = refl
+
 pub nothing : {p : Pen} {page : List ℕ} → Rendered [] p page p page
-unfolding after run shown chars fill
-nothing = record { ran = record { machine-then = refl; written = writing.nothing }; indent-kept = refl }
+unfolding after run
+nothing {p} = record { ran = record { machine-then = refl; written = rw (shown-nothing (p .form)) writing.nothing; form-kept = refl }; indent-kept = refl }
 
 -- the page's length is kept
 pub kept : {p p′ : Pen} {page page′ : List ℕ} {os : Ops} → Rendered os p page p′ page′ → length page′ ≡ length page

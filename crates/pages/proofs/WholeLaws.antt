@@ -1,6 +1,6 @@
 -- The page of a whole file: what is refused, how long it is, and what is written.
-use mathlib.Core.Path.{_≡_, refl, sym, ap, _∙_}
-use mathlib.Core.List.{List, [], _++_}
+use mathlib.Core.Path.{_≡_, refl, sym, ap, subst, _∙_}
+use mathlib.Core.List.{List, [], _++_, append-nil, append-assoc}
 use mathlib.Core.Bool.{false}
 use Prim.Native.Nat.{ℕ, _<_, _≤_}
 use native.Mathlib.Omega.{arith}
@@ -15,30 +15,39 @@ use Rattle.rules.specs.Result.{refused, accepted, _>>=_, said}
 use Rattle.rules.specs.Tree.{Frag}
 use Rattle.rules.specs.Encode.{encode}
 use Rattle.rules.specs.Good.{Bytes, GoodTree}
-use Rattle.rules.specs.Lines.{start, items}
+use Rattle.rules.specs.Lines.{start, Item, items}
 use Rattle.rules.specs.Plain.{plain, fill}
-use Rattle.rules.specs.Answers.{itself, tree, check-answer, written, left-page, plain-text, plain-outcome}
+use Rattle.rules.specs.Html.{escape, makes, items-html, opening, closing, before-body, after-body, body, document}
+use Rattle.rules.specs.Answers.{itself, tree, check-answer, written, left-page, plain-text, plain-outcome, body-text, body-outcome, document-text, document-outcome}
 use Rattle.verify.proofs.Verdicts.{RefusedSo, refused-so, AcceptedAs, accepted-as}
 use Rattle.writing.specs.Written.{last, Written}
+use Rattle.writing.specs.Laws as writing
 use Rattle.writing.specs.Laws.{how-long, fits, no-page}
 use Rattle.lines.specs.Said.{machine-of}
 use Rattle.pages.specs.OpsIn.{fragment-in}
-use Rattle.pages.specs.Ran.{shown, Rendered, page-in}
+use Rattle.pages.specs.Ran.{shown, Rendered}
+use Rattle.pages.specs.Kinds.{form-of, head, foot, page-in, page-of, page-outcome}
+use Rattle.pages.specs.declared.frame.Kind as K
+use Rattle.pages.specs.declared.frame.Kind.{Kind}
 use Rattle.pages.specs.declared.pen.Pen.{Pen}
 use Rattle.pages.proofs.OfTrees.{ops-tree}
 use Rattle.pages.proofs.PageLengths.{plain-short}
+use Rattle.pages.proofs.HtmlLengths.{body-short, document-short}
+use Rattle.pages.proofs.Running.{fill-append}
+use Rattle.pages.proofs.Pens.{fill-makes}
 
 -- ---- the pen over a whole file
 
-pub whole-page : (s : List ℕ) {p p′ : Pen} {page page′ : List ℕ} → machine-of (p .machine) ≡ start → Rendered (fragment-in 32 false 0 s) p page p′ page′
-    → Written page (p .at) (page-in s) page′ (p′ .at)
+pub whole-page : (k : Kind) (s : List ℕ) {p p′ : Pen} {page page₁ page₂ page₃ : List ℕ} {r : ℕ} → Written page 0 (head k) page₁ (p .at) → p .form ≡ form-of k
+    → machine-of (p .machine) ≡ start → Rendered (fragment-in 32 false 0 s) p page₁ p′ page₂ → Written page₂ (p′ .at) (foot k) page₃ r
+    → Written page 0 (page-in k s) page₃ r
 unfolding page-in
-whole-page s e r = rw e at (r .ran .written)
+whole-page k s h f e r g = writing.then h (writing.then (rw (f, e) at (r .ran .written)) g)
 
 -- ---- any kind of page: the text of a tree, and the same by the bytes of its file
 
 module _ (text : Frag ℕ → List ℕ) (text-in : List ℕ → List ℕ) (same : (t : Frag ℕ) → GoodTree t → text-in (encode t) ≡ text t)
-    (short : (t : Frag ℕ) → GoodTree t → length (text t) ≤ last) (s page : List ℕ) where
+    (short : (t : Frag ℕ) → GoodTree t → Bytes (encode t) → length (text t) ≤ last) (s page : List ℕ) where
   page-refused : (a : Answer) {r : Refusal} → a ≡ Refused r → said a ≡ check-answer s → (said a, page) ≡ left-page (tree s >>= (λ t. accepted (text t))) page
   unfolding left-page _>>=_
   page-refused a q e =
@@ -56,7 +65,7 @@ module _ (text : Frag ℕ → List ℕ) (text-in : List ℕ → List ℕ) (same 
     accepted-outcome A = rw (A .its-tree, accepted-text A)
 
     text-short : (A : AcceptedAs s) → length (text-in s) ≤ last
-    text-short A = rw (accepted-text A) (short (A .root) (A .read .good))
+    text-short A = rw (accepted-text A) (short (A .root) (A .read .good) (subst Bytes (sym (A .read .encodes)) b))
 
     -- measuring lends no page, and leaves none in front of the page itself
     pub page-too-short : length (x ++ page) < needed → (refused 10 needed, x ++ page) ≡ left-page (tree s >>= (λ t. accepted (text t))) page
@@ -78,25 +87,51 @@ module _ (text : Frag ℕ → List ℕ) (text-in : List ℕ → List ℕ) (same 
         let h′ : length (text-in s) ≤ length page = omega (arith, l, ap length none) in
         rw (accepted-outcome A, le-leb (length (text-in s)) (length page) h′, how-long w (text-short A), fits (rw none at w) (text-short A) h′) refl
 
--- ---- the plain page
+-- ---- the three kinds
 
-plain-by-bytes : (t : Frag ℕ) → GoodTree t → page-in (encode t) ≡ fill itself (plain newline t)
-unfolding page-in shown plain items
-plain-by-bytes t G = rw (ops-tree t G)
+makes-items : (is : List (Item ℕ)) (a b : List ℕ) → fill itself (makes a ++ (items-html escape is ++ makes b)) ≡ a ++ (fill itself (items-html escape is) ++ b)
+makes-items is a b =
+    fill-append (makes a) (items-html escape is ++ makes b)
+    ∙ rw (fill-makes a, fill-append (items-html escape is) (makes b), fill-makes b)
 
-plain-last : (t : Frag ℕ) → GoodTree t → length (fill itself (plain newline t)) ≤ last
-plain-last t G = omega (arith, plain-short t G)
+-- the document's frame around the body's
+framed-items : (is : List (Item ℕ)) → fill itself (makes before-body ++ ((makes opening ++ (items-html escape is ++ makes closing)) ++ makes after-body))
+    ≡ (before-body ++ opening) ++ (fill itself (items-html escape is) ++ (closing ++ after-body))
+framed-items is =
+    let inner : List ℕ = fill itself (items-html escape is) in
+    fill-append (makes before-body) ((makes opening ++ (items-html escape is ++ makes closing)) ++ makes after-body)
+    ∙ rw (fill-makes before-body, fill-append (makes opening ++ (items-html escape is ++ makes closing)) (makes after-body), fill-makes after-body, makes-items is opening closing)
+    (framed before-body opening inner closing after-body)
+  where
+    framed : (a b c d e : List ℕ) → a ++ ((b ++ (c ++ d)) ++ e) ≡ (a ++ b) ++ (c ++ (d ++ e))
+    framed a b c d e = rw (append-assoc b (c ++ d) e, append-assoc c d e, append-assoc a b (c ++ (d ++ e)))
 
-module _ (s page : List ℕ) where
-  pub plain-refused : (a : Answer) {r : Refusal} → a ≡ Refused r → said a ≡ check-answer s → (said a, page) ≡ plain-outcome s page
-  unfolding plain-outcome plain-text _>>=_
-  plain-refused = page-refused (λ t. fill itself (plain newline t)) page-in plain-by-bytes plain-last s page
+page-by-bytes : (k : Kind) (t : Frag ℕ) → GoodTree t → page-in k (encode t) ≡ page-of k t
+unfolding page-in page-of form-of head foot shown plain body document items
+page-by-bytes K.the-variants.Plain t G = rw (ops-tree t G) (append-nil _)
+page-by-bytes K.the-variants.Body t G = rw (ops-tree t G) (sym (makes-items (items newline t) opening closing))
+page-by-bytes K.the-variants.Document t G = rw (ops-tree t G) (sym (framed-items (items newline t)))
 
-  module _ (b : Bytes s) (a : Answer) {n : ℕ} (q : a ≡ Done n) (e : said a ≡ check-answer s) {needed : ℕ} {x : List ℕ} (m : Written [] 0 (page-in s) x needed) where
-    pub plain-too-short : length (x ++ page) < needed → (refused 10 needed, x ++ page) ≡ plain-outcome s page
-    unfolding plain-outcome plain-text _>>=_
-    plain-too-short = page-too-short (λ t. fill itself (plain newline t)) page-in plain-by-bytes plain-last s page b a q e m
+page-last : (k : Kind) (t : Frag ℕ) → GoodTree t → Bytes (encode t) → length (page-of k t) ≤ last
+unfolding page-of
+page-last K.the-variants.Plain t G b = omega (arith, plain-short t G)
+page-last K.the-variants.Body t G b = omega (arith, body-short t G b)
+page-last K.the-variants.Document t G b = omega (arith, document-short t G b)
 
-    pub plain-written : {r : ℕ} {page′ : List ℕ} → needed ≤ length (x ++ page) → Written (x ++ page) 0 (page-in s) page′ r → (accepted r, page′) ≡ plain-outcome s page
-    unfolding plain-outcome plain-text _>>=_
-    plain-written = page-written (λ t. fill itself (plain newline t)) page-in plain-by-bytes plain-last s page b a q e m
+-- what a kind answers, by its page
+outcome-of : (k : Kind) (s page : List ℕ) → left-page (tree s >>= (λ t. accepted (page-of k t))) page ≡ page-outcome k s page
+unfolding page-outcome page-of plain-outcome plain-text body-outcome body-text document-outcome document-text _>>=_
+outcome-of K.the-variants.Plain s page = refl
+outcome-of K.the-variants.Body s page = refl
+outcome-of K.the-variants.Document s page = refl
+
+module _ (k : Kind) (s page : List ℕ) where
+  pub kind-refused : (a : Answer) {r : Refusal} → a ≡ Refused r → said a ≡ check-answer s → (said a, page) ≡ page-outcome k s page
+  kind-refused a q e = page-refused (page-of k) (page-in k) (page-by-bytes k) (page-last k) s page a q e ∙ outcome-of k s page
+
+  module _ (b : Bytes s) (a : Answer) {n : ℕ} (q : a ≡ Done n) (e : said a ≡ check-answer s) {needed : ℕ} {x : List ℕ} (m : Written [] 0 (page-in k s) x needed) where
+    pub kind-too-short : length (x ++ page) < needed → (refused 10 needed, x ++ page) ≡ page-outcome k s page
+    kind-too-short h = page-too-short (page-of k) (page-in k) (page-by-bytes k) (page-last k) s page b a q e m h ∙ outcome-of k s page
+
+    pub kind-written : {r : ℕ} {page′ : List ℕ} → needed ≤ length (x ++ page) → Written (x ++ page) 0 (page-in k s) page′ r → (accepted r, page′) ≡ page-outcome k s page
+    kind-written h w = page-written (page-of k) (page-in k) (page-by-bytes k) (page-last k) s page b a q e m h w ∙ outcome-of k s page

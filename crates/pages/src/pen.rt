@@ -4,6 +4,12 @@ use lines::LineOp;
 use lines::Machine;
 use lines::Waiting;
 use lines::step;
+use markup::anchors::put_close_anchor;
+use markup::anchors::put_open_anchor;
+use markup::escapes::put_escaped;
+use markup::tags::put_close_tag;
+use markup::tags::put_open_tag;
+use styles::read_styles;
 use writing::put;
 use writing::put_bytes;
 use writing::put_spaces;
@@ -12,11 +18,20 @@ ghost use Prim.Native.Nat.{_<_, _^_};
 ghost use Rattle.rules.specs.Bytes.{if_then_else_};
 ghost use Rattle.writing.specs.Written.{Written};
 ghost use Rattle.lines.specs.Said.{break-bytes, before-bytes, own};
+ghost use Rattle.lines.specs.declared.LineOp.the-variants as LineOp;
+ghost use Rattle.pages.specs.declared.pen.Form.the-variants as Form;
 ghost use Rattle.pages.specs.Ran.{shown, Interpreted};
+
+// How items are shown: texts alone, or texts escaped and marks as tags.
+pub enum Form {
+    Plain,
+    Html,
+}
 
 pub struct Pen {
     pub machine: Machine,
     pub at: usize,
+    pub form: Form,
 }
 
 // A break that waited.
@@ -50,14 +65,49 @@ fn put_before(page: &mut [u8], at: usize, b: Before) -> usize
     put_spaces(page, line, b.spaces)
 }
 
-// What an operation itself shows: a part's bytes.
-fn put_own(page: &mut [u8], at: usize, op: LineOp, text: &[u8]) -> usize
-    ensures { λ r. ⌜ Written (now (page .entry)) at (shown (own op (now (text .entry)))) (now (page .exit)) r ⌝ }
+// What an operation itself shows on a plain page: a part's bytes.
+fn put_plain(page: &mut [u8], at: usize, op: LineOp, text: &[u8]) -> usize
+    ensures { λ r. ⌜ Written (now (page .entry)) at (shown Form.Plain (own op (now (text .entry)))) (now (page .exit)) r ⌝ }
 {
     let LineOp::AppendToLine = op else {
         return at;
     };
     put_bytes(page, at, text)
+}
+
+// An anchor around nothing.
+fn put_empty_anchor(page: &mut [u8], at: usize, is_def: bool, name: &[u8]) -> usize
+    ensures { λ r. ⌜ Written (now (page .entry)) at (shown Form.Html (own (LineOp.EmptyAnchor «is_def») (now (name .entry)))) (now (page .exit)) r ⌝ }
+{
+    let opened = put_open_anchor(page, at, is_def, name);
+    put_close_anchor(page, opened)
+}
+
+// In HTML: a part escaped, or the tags of a mark.
+fn put_html(page: &mut [u8], at: usize, op: LineOp, text: &[u8]) -> usize
+    ensures { λ r. ⌜ Written (now (page .entry)) at (shown Form.Html (own op (now (text .entry)))) (now (page .exit)) r ⌝ }
+{
+    match op {
+        LineOp::PushIndent => at,
+        LineOp::PopIndent => at,
+        LineOp::PushStyles => put_open_tag(page, at, read_styles(text)),
+        LineOp::PopStyles => put_close_tag(page, at, read_styles(text)),
+        LineOp::PushAnchor { is_def } => put_open_anchor(page, at, is_def, text),
+        LineOp::PopAnchor => put_close_anchor(page, at),
+        LineOp::EmptyAnchor { is_def } => put_empty_anchor(page, at, is_def, text),
+        LineOp::AppendToLine => put_escaped(page, at, text),
+        LineOp::StartNewLine => at,
+        LineOp::BreakIfWithinLine(b) => at,
+    }
+}
+
+fn put_own(page: &mut [u8], at: usize, form: Form, op: LineOp, text: &[u8]) -> usize
+    ensures { λ r. ⌜ Written (now (page .entry)) at (shown form (own op (now (text .entry)))) (now (page .exit)) r ⌝ }
+{
+    match form {
+        Form::Plain => put_plain(page, at, op, text),
+        Form::Html => put_html(page, at, op, text),
+    }
 }
 
 // One operation; the bytes it is about stand beside it.
@@ -69,7 +119,8 @@ pub fn interpret(page: &mut [u8], pen: Pen, op: LineOp, text: &[u8]) -> Pen
     let s = step(m, op, text);
     let b = s.before;
     let from = put_before(page, pen.at, b);
-    let at = put_own(page, from, op, text);
+    let form = pen.form;
+    let at = put_own(page, from, form, op, text);
     let machine = s.machine;
-    Pen { machine, at }
+    Pen { machine, at, form }
 }

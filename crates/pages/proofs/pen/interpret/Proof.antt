@@ -18,7 +18,7 @@ same-length : tie.Need-same-length
 same-length c = search needs
 
 returns : tie.Need-returns
-returns c = one-operation _ _ _ (c .before .before .before .before .before .before .before .before .before .before .step .ensures) (c .before .before .before .before .before .before .before .put-before .ensures) (c .before .before .before .put-own .ensures) refl
+returns c = one-operation _ _ _ (c .before .before .before .before .before .before .before .before .before .before .step .ensures) (c .before .before .before .before .before .before .before .put-before .ensures) (c .before .before .before .put-own .ensures) refl refl
 
 pub interpret-spec : {M : Type 1} → statement M
 interpret-spec =

@@ -1,0 +1,22 @@
+-- Writings in a row are one writing of their joined texts.
+use mathlib.Core.Path.{_≡_}
+use mathlib.Core.List.{List, [], _∷_}
+use Prim.Native.Nat.{ℕ}
+use Rattle.rules.specs.Bytes.{join}
+use Rattle.writing.specs.Written.{Written}
+use Rattle.writing.specs.Laws.{nothing, then}
+
+-- texts that are written one after the other
+infixr 20 _▸_
+pub data Row : (page : List ℕ) (at : ℕ) (texts : List (List ℕ)) (page′ : List ℕ) (r : ℕ) → Type 0 where
+  done : {page : List ℕ} {at : ℕ} → Row page at [] page at
+  _▸_ : {page page′ page″ : List ℕ} {at b r : ℕ} {text : List ℕ} {texts : List (List ℕ)} → Written page at text page′ b → Row page′ b texts page″ r
+      → Row page at (text ∷ texts) page″ r
+
+written : {page page′ : List ℕ} {at r : ℕ} {texts : List (List ℕ)} → Row page at texts page′ r → Written page at (join texts) page′ r
+unfolding join
+written done = nothing
+written (f ▸ fs) = then f (written fs)
+
+pub one-text : {page page′ text : List ℕ} {at r : ℕ} {texts : List (List ℕ)} → join texts ≡ text → Row page at texts page′ r → Written page at text page′ r
+one-text e fs = rw e at (written fs)

@@ -1,0 +1,10 @@
+-- Laws that the proofs of the code cite.
+pub mod Joins
+pub mod Fills
+pub mod ColourLaws
+pub mod WeightLaws
+pub mod SizeLaws
+pub mod CssLaws
+pub mod TagLaws
+pub mod AnchorLaws
+pub mod EscapeLaws

@@ -1,0 +1,2 @@
+-- What the contracts say besides the rules' own words.
+pub mod Any

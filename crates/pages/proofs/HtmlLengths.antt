@@ -1,0 +1,144 @@
+-- How long the HTML body and document of a good tree can be: what their items cost, and the fixed bytes around them.
+use mathlib.Core.Path.{_≡_, refl}
+use mathlib.Core.List.{List, [], _∷_, _++_}
+use mathlib.Core.Bool.{Bool, true, false}
+use Prim.Native.Nat.{ℕ, _+_, _*_, _≤_, _<_}
+use native.Mathlib.Omega.{arith}
+use lib.Dec.{leb→le}
+use lib.ListN.{length, length-append, length-map}
+use Rattle.rules.specs.Bytes.{ascii, newline}
+use Rattle.rules.specs.Walk.{Fields, in-styles}
+use Rattle.rules.specs.Tree.{Styles, styles-of, Frag}
+use Rattle.rules.specs.Encode.{encode-fields, encode}
+use Rattle.rules.specs.Good.{Bytes, Good, GoodTree}
+use Rattle.rules.specs.Lines.{Out, made, copied, push, pop, open-anchor, close-anchor, Item, char, marked, items}
+use Rattle.rules.specs.Plain.{fill}
+use Rattle.rules.specs.Html.{open-tag, close-tag, Escape, ampersand, less-than, as-it-is, escape, opening, closing, makes, copies, escaped, id-attribute, mark-html, item-html, items-html, body, before-body, after-body, document}
+use Rattle.rules.specs.Answers.{itself}
+use Rattle.rules.proofs.Open.{all-open}
+use Rattle.rules.proofs.Demand3.{fill-length}
+use Rattle.pages.proofs.ItemCosts.{cost-all}
+use Rattle.pages.proofs.PageLengths.{items-cost}
+use Rattle.pages.proofs.StyleLengths.{bytes-inside, bytes-here, open-tag-most, close-tag-most}
+
+-- ---- an item
+
+unfoldable html-cost : Item ℕ → ℕ
+html-cost i = length (item-html escape i)
+
+items-length : (is : List (Item ℕ)) → length (items-html escape is) ≡ cost-all html-cost is
+unfolding items-html cost-all html-cost
+items-length [] = refl
+items-length (i ∷ is) = omega (arith, length-append (item-html escape i) (items-html escape is), items-length is)
+
+length-makes : (bs : List ℕ) → length (makes {X = ℕ} bs) ≡ length bs
+unfolding makes
+length-makes bs = length-map bs (λ b. made b)
+
+length-copies : (a : List ℕ) → length (copies a) ≡ length a
+unfolding copies
+length-copies a = length-map a (λ x. copied x)
+
+made-1 : (b : ℕ) → html-cost (char (made b)) ≤ 1
+unfolding html-cost item-html
+made-1 b = omega arith
+
+escaped-most : (e : Escape) (x : ℕ) → length (escaped e x) ≤ 5
+unfolding escaped makes ascii
+escaped-most ampersand x = omega arith
+escaped-most less-than x = omega arith
+escaped-most as-it-is x = omega arith
+
+copied-most : (x : ℕ) → html-cost (char (copied x)) ≤ 144
+unfolding html-cost item-html
+copied-most x = omega (arith, escaped-most (escape x) x)
+
+push-most : (d before : ℕ) (j : Fields ℕ) → Good in-styles d before j → Bytes (encode-fields j) → html-cost (marked (push (styles-of j))) ≤ 144
+unfolding html-cost item-html mark-html
+push-most d before j G z = omega (arith, length-makes (open-tag (styles-of j)), open-tag-most d before j G z)
+
+pop-most : (s : Styles) → html-cost (marked (pop s)) ≤ 144
+unfolding html-cost item-html mark-html
+pop-most s = omega (arith, length-makes (close-tag s), close-tag-most s)
+
+id-most : (definition : Bool) (a : List ℕ) → length (id-attribute definition a) ≤ 6 + length a
+unfolding id-attribute makes ascii
+id-most true a = omega (arith, length-append (copies a) (makes (ascii "\"")), length-copies a)
+id-most false a = omega arith
+
+open-most : (definition : Bool) (a : List ℕ) → html-cost (marked (open-anchor definition a)) ≤ 144 + 2 * length a
+unfolding html-cost item-html mark-html makes ascii
+open-most definition a =
+    let link : List (Out ℕ) = makes (ascii " href=\"#") ++ (copies a ++ makes (ascii "\">")) in
+    omega (
+      arith,
+      length-append (id-attribute definition a) link,
+      length-append (copies a) (makes (ascii "\">")),
+      id-most definition a,
+      length-copies a,
+    )
+
+close-most : html-cost (marked close-anchor) ≤ 144
+unfolding html-cost item-html mark-html makes ascii
+close-most = omega arith
+
+-- all of them
+items-most : (t : Frag ℕ) → GoodTree t → Bytes (encode t) → cost-all html-cost (items newline t) ≤ 30_000_000_000
+unfolding encode
+items-most =
+    items-cost (λ j. Bytes (encode-fields j)) bytes-inside (λ t v r z. bytes-here t v r z .1) html-cost 144
+    made-1 copied-most push-most (λ d before j G z. pop-most (styles-of j)) open-most close-most (omega arith)
+
+-- ---- the pages
+
+-- the fixed bytes
+opening-most : length opening ≤ 4_096
+unfolding all-open
+opening-most = leb→le _ _ tt
+
+closing-most : length closing ≤ 4_096
+unfolding all-open
+closing-most = leb→le _ _ tt
+
+before-most : length before-body ≤ 4_096
+unfolding all-open
+before-most = leb→le _ _ tt
+
+after-most : length after-body ≤ 4_096
+unfolding all-open
+after-most = leb→le _ _ tt
+
+body-most : (t : Frag ℕ) → GoodTree t → Bytes (encode t) → length (body escape newline t) ≤ 30_000_008_192
+unfolding body
+body-most t G z =
+    let is : List (Item ℕ) = items newline t in
+    omega (
+      arith,
+      length-append (makes {X = ℕ} opening) (items-html escape is ++ makes closing),
+      length-append (items-html escape is) (makes closing),
+      length-makes opening,
+      length-makes closing,
+      opening-most,
+      closing-most,
+      items-length is,
+      items-most t G z,
+    )
+
+-- THE BODY AND THE DOCUMENT OF A GOOD TREE WHOSE FILE IS BYTES ARE SHORTER THAN 2^50
+pub body-short : (t : Frag ℕ) → GoodTree t → Bytes (encode t) → length (fill itself (body escape newline t)) < 1_125_899_906_842_624
+body-short t G z = omega (arith, fill-length itself (body escape newline t), body-most t G z)
+
+pub document-short : (t : Frag ℕ) → GoodTree t → Bytes (encode t) → length (fill itself (document escape newline t)) < 1_125_899_906_842_624
+unfolding document
+document-short t G z =
+    omega (
+      arith,
+      fill-length itself (document escape newline t),
+      length-append (makes {X = ℕ} before-body) (body escape newline t ++ makes after-body),
+      length-append (body escape newline t) (makes after-body),
+      length-makes before-body,
+      length-makes after-body,
+      before-most,
+      after-most,
+      body-most t G z,
+    )

@@ -1,0 +1,2 @@
+-- What an accepted answer says of a page.
+pub mod Shown

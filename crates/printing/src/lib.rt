@@ -1,0 +1,65 @@
+// Printing a page that is asked for in some input: two bytes of width, high byte first, and a file. The file is laid out at the width, and its
+// page printed and nothing more; a refusal prints `refused N at P` and a newline.
+use fields::wide;
+use hazomeny::html_document;
+use hazomeny::layout_file;
+use hazomeny::plain_page;
+use libc::STDOUT_FILENO;
+use rules::Answer;
+use rules::Refusal;
+use telling::end_line;
+use telling::tell_refusal;
+ghost use Rattle.printing.specs.Shown.{Shown};
+
+// What is printed of the file.
+pub enum Wanted {
+    PlainPage,
+    Document,
+}
+
+fn refuse(r: Refusal) {
+    tell_refusal(r);
+    end_line();
+}
+
+// The bytes of the page that the answer counts.
+fn print_answer(page: &[u8], a: Answer)
+    requires { ⌜ Shown a (now page) ⌝ }
+{
+    match a {
+        Answer::Done(n) => {
+            io::write_all(STDOUT_FILENO, &page[..n]);
+        }
+        Answer::Refused(r) => refuse(r),
+    }
+}
+
+fn print_page(wanted: Wanted, file: &[u8], page: &mut [u8]) {
+    match wanted {
+        Wanted::PlainPage => {
+            let a = plain_page(file, page);
+            print_answer(page, a);
+        }
+        Wanted::Document => {
+            let a = html_document(file, page);
+            print_answer(page, a);
+        }
+    }
+}
+
+// The file laid out at the width, then its page. Places count from the file's start.
+fn lay_out_and_print(wanted: Wanted, file: &mut [u8], width: usize, page: &mut [u8]) {
+    match layout_file(file, width) {
+        Answer::Done(n) => print_page(wanted, file, page),
+        Answer::Refused(r) => refuse(r),
+    }
+}
+
+pub fn print_asked(wanted: Wanted, input: &mut [u8], page: &mut [u8]) {
+    if input.len() < 2 {
+        refuse(Refusal::Cut(0));
+        return;
+    }
+    let width = wide(input[0]) * 256 + wide(input[1]);
+    lay_out_and_print(wanted, &mut input[2..], width, page);
+}
