@@ -2,19 +2,22 @@
 
 use crate::answers::{answer, rendered, Answer, Operation, Request};
 use crate::check::check;
-use crate::compare::{self, Stop, Tally};
+use crate::compare::{self, Disagreement, Stop, Tally};
 use crate::damage::noise;
 use crate::examples;
 use crate::hex::hex;
+use crate::numbers::{self, Misprint};
 use crate::options::Options;
 use crate::random::Random;
 use crate::record;
 use crate::selftest;
 use crate::subject::{Child, Oneself, Subject};
+use crate::tags::{FULL_OPACITY, LEAST_OPACITY};
 use crate::tree;
 use crate::wire;
 use std::fs;
 use std::io::{self, Read, Write};
+use std::num::NonZeroUsize;
 use std::path::Path;
 use std::process::ExitCode;
 use std::time::{Instant, SystemTime, UNIX_EPOCH};
@@ -36,6 +39,10 @@ oracle COMMAND: the Rust original's answers for fragment files
   compare --subject WHAT [--parts P,P] [--seed S] [--files N]
                                WHAT is `self` or a command that reads a request
                                batch and writes the response batch
+  numbers --subject WHAT [--every N] [--from K]
+                               compares every opacity, size and weight in HTML
+                               bodies; of the opacities from 1/1024 to 1 only
+                               each Nth, beginning with the one numbered K
   time [--width W] [--times N] FILE
                                prints how long the original takes to lay the
                                file's tree out: nanoseconds, the best of N
@@ -59,6 +66,7 @@ pub fn run(words: &[String]) -> Result<ExitCode, Mistake> {
         "record" => run_record(&Options::new(rest, &[])?),
         "lines" => run_lines(&Options::new(rest, &["seed", "files"])?),
         "compare" => run_compare(&Options::new(rest, &["subject", "parts", "seed", "files"])?),
+        "numbers" => run_numbers(&Options::new(rest, &["subject", "every", "from"])?),
         "time" => run_time(&Options::new(rest, &["width", "times"])?),
         "selftest" => run_selftest(&Options::new(rest, &["seed", "files"])?),
         "help" | "--help" => print(USAGE.as_bytes()),
@@ -198,16 +206,21 @@ fn parts(options: &Options) -> Result<Vec<Operation>, Mistake> {
     }
 }
 
+/// The subject asked for.
+fn subject(options: &Options, parts: &[Operation]) -> Result<Box<dyn Subject>, Mistake> {
+    match options.text("subject") {
+        Some("self") => Ok(Box::new(Oneself)),
+        Some(command) => Ok(Box::new(Child::new(command, parts)?)),
+        None => Err("a --subject is needed".into()),
+    }
+}
+
 fn run_compare(options: &Options) -> Result<ExitCode, Mistake> {
     let [] = options.words()?;
     let parts = parts(options)?;
     let seed = seed(options)?;
     let files = options.number("files")?.unwrap_or(20_000);
-    let mut subject: Box<dyn Subject> = match options.text("subject") {
-        Some("self") => Box::new(Oneself),
-        Some(command) => Box::new(Child::new(command, &parts)?),
-        None => return Err("compare needs a --subject".into()),
-    };
+    let mut subject = subject(options, &parts)?;
     if let Some(part) = parts.iter().find(|part| !subject.parts().contains(part)) {
         return Err(format!("the subject does not answer {}", part.name()));
     }
@@ -219,11 +232,18 @@ fn run_compare(options: &Options) -> Result<ExitCode, Mistake> {
             println!("no disagreement; {per_second:.0} files per second");
             Ok(ExitCode::SUCCESS)
         }
-        Err(Stop::Differs(difference)) => {
-            println!("disagreement: {}", difference.words());
+        Err(stop) => stopped(stop, Disagreement::words),
+    }
+}
+
+/// Prints a difference; a subject that cannot be asked is the caller's mistake.
+fn stopped<D>(stop: Stop<D>, words: fn(&D) -> String) -> Result<ExitCode, Mistake> {
+    match stop {
+        Stop::Differs(difference) => {
+            println!("disagreement: {}", words(&difference));
             Ok(ExitCode::FAILURE)
         }
-        Err(Stop::CannotAsk(why)) => Err(why),
+        Stop::CannotAsk(why) => Err(why),
     }
 }
 
@@ -244,6 +264,33 @@ fn compare_all(
 fn words(tally: &Tally) -> String {
     let (files, accepted, requests) = (tally.files, tally.accepted, tally.requests);
     format!("{files}, of them accepted {accepted}, requests {requests}")
+}
+
+fn run_numbers(options: &Options) -> Result<ExitCode, Mistake> {
+    let [] = options.words()?;
+    let every = options.number("every")?.unwrap_or(NonZeroUsize::MIN);
+    let from = options.number("from")?.unwrap_or(0);
+    if from > (FULL_OPACITY - LEAST_OPACITY) as usize {
+        return Err(format!("--from {from} is past the last opacity"));
+    }
+    let mut subject = subject(options, &[Operation::Body])?;
+    let start = Instant::now();
+    match numbers::run(&mut *subject, numbers::opacities(every, from)) {
+        Ok(tally) => {
+            println!("{}", number_words(&tally, start.elapsed().as_secs_f64()));
+            Ok(ExitCode::SUCCESS)
+        }
+        Err(stop) => stopped(stop, Misprint::words),
+    }
+}
+
+fn number_words(tally: &numbers::Tally, seconds: f64) -> String {
+    let (opacities, sizes, weights) = (tally.opacities, tally.sizes, tally.weights);
+    let per_second = (opacities + sizes + weights) as f64 / seconds;
+    format!(
+        "no disagreement: {opacities} opacities, {sizes} sizes, {weights} weights; \
+         {per_second:.0} numbers per second"
+    )
 }
 
 fn run_selftest(options: &Options) -> Result<ExitCode, Mistake> {

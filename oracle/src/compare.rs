@@ -17,9 +17,9 @@ const MOST_REQUESTS: usize = 4_000;
 const MOST_BYTES: usize = 1 << 24;
 
 /// A request with what is right for it.
-struct Case {
-    request: Request,
-    right: Outcome,
+pub struct Case {
+    pub request: Request,
+    pub right: Outcome,
 }
 
 /// Requests that wait to be asked.
@@ -61,8 +61,8 @@ pub struct Disagreement {
 }
 
 /// Why a run did not end well.
-pub enum Stop {
-    Differs(Box<Disagreement>),
+pub enum Stop<Difference = Disagreement> {
+    Differs(Box<Difference>),
     CannotAsk(String),
 }
 
@@ -169,17 +169,28 @@ fn judge(subject: &mut dyn Subject, cases: &[Case]) -> Result<(), Stop> {
     if cases.is_empty() {
         return Ok(());
     }
+    match first_difference(subject, cases).map_err(Stop::CannotAsk)? {
+        None => Ok(()),
+        Some((index, _)) => {
+            let request = &cases[index].request;
+            Err(Stop::Differs(Box::new(smallest(subject, request))))
+        }
+    }
+}
+
+/// The first case to which the subject says something wrong, and what it says.
+pub fn first_difference(
+    subject: &mut dyn Subject,
+    cases: &[Case],
+) -> Result<Option<(usize, Said)>, String> {
     let requests: Vec<Request> = cases.iter().map(|case| case.request.clone()).collect();
-    let said = subject.answer(&requests).map_err(Stop::CannotAsk)?;
+    let said = subject.answer(&requests)?;
     if said.len() != cases.len() {
         let (few, many) = (said.len(), cases.len());
-        return Err(Stop::CannotAsk(format!("{few} answers to {many} requests")));
+        return Err(format!("{few} answers to {many} requests"));
     }
-    let differs = |(case, said): &(&Case, Said)| said.as_ref() != Ok(&case.right);
-    match cases.iter().zip(said).find(differs) {
-        None => Ok(()),
-        Some((case, _)) => Err(Stop::Differs(Box::new(smallest(subject, &case.request)))),
-    }
+    let differs = |(index, said): &(usize, Said)| said.as_ref() != Ok(&cases[*index].right);
+    Ok(said.into_iter().enumerate().find(differs))
 }
 
 fn smallest(subject: &mut dyn Subject, request: &Request) -> Disagreement {

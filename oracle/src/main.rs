@@ -10,6 +10,7 @@ mod field;
 mod generate;
 mod hex;
 mod known;
+mod numbers;
 mod options;
 mod properties;
 mod random;

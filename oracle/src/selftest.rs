@@ -8,10 +8,14 @@ use crate::field;
 use crate::generate;
 use crate::hex::hex;
 use crate::known;
+use crate::numbers::{self, Number, Tally};
 use crate::properties::{Held, Property, OF_ACCEPTED, OF_ANY};
 use crate::random::Random;
 use crate::shrink::shrink;
-use crate::wrong;
+use crate::subject::Oneself;
+use crate::tags::LEAST_OPACITY;
+use crate::wrong::{self, Misprinter};
+use std::num::NonZeroUsize;
 use std::panic::{catch_unwind, AssertUnwindSafe};
 
 /// How often each refusal was seen; 0 counts accepted files.
@@ -49,6 +53,8 @@ pub fn run(seed: u64, files: u64) -> Result<Vec<String>, String> {
         seen.words(),
     ];
     found.extend(wrong_subjects(seed)?);
+    all_numbers()?;
+    found.extend(misprints()?);
     Ok(found)
 }
 
@@ -122,4 +128,49 @@ fn wrong_subjects(seed: u64) -> Result<Vec<String>, String> {
         }
     }
     Ok(found)
+}
+
+/// Of the opacities one in so many: enough for more files than are asked at once.
+const EVERY: NonZeroUsize = NonZeroUsize::new(509).expect("it is not 0");
+
+/// `numbers` finds no fault in the judge itself, and leaves no number out.
+fn all_numbers() -> Result<(), String> {
+    let right = Tally {
+        opacities: 164_807,
+        sizes: 246,
+        weights: 256,
+    };
+    match numbers::run(&mut Oneself, numbers::opacities(EVERY, 0)) {
+        Ok(tally) if tally == right => Ok(()),
+        Ok(tally) => Err(format!("{tally:?} in place of {right:?}")),
+        Err(Stop::CannotAsk(why)) => Err(why),
+        Err(Stop::Differs(misprint)) => Err(misprint.words()),
+    }
+}
+
+/// `numbers` has to find every misprint, with the number and both prints.
+fn misprints() -> Result<Vec<String>, String> {
+    wrong::misprinters().into_iter().map(misprint).collect()
+}
+
+fn misprint(mut wrong: Misprinter) -> Result<String, String> {
+    let from = match wrong.number {
+        Number::Opacity(bits) => bits.saturating_sub(LEAST_OPACITY) as usize % EVERY,
+        Number::Size(_) | Number::Thickness(_) => 0,
+    };
+    let ran = numbers::run(&mut wrong, numbers::opacities(EVERY, from));
+    let (number, right, said) = (wrong.number, wrong.right, wrong.wrong);
+    let name = format!("{}, printed as {said}", number.words());
+    match ran {
+        Ok(_) => Err(format!("not found: {name}")),
+        Err(Stop::CannotAsk(why)) => Err(format!("{name}: {why}")),
+        Err(Stop::Differs(misprint)) => {
+            let words = misprint.words();
+            let says = [right, said].iter().all(|print| words.contains(*print));
+            match misprint.numbers == [number] && says {
+                true => Ok(format!("found: {name}")),
+                false => Err(format!("{name}: found as {words}")),
+            }
+        }
+    }
 }

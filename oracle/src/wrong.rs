@@ -1,7 +1,8 @@
 //! Subjects that are wrong on purpose: the comparison has to find each fault and make it small.
 
-use crate::answers::{answer, Answer, Operation, Outcome, Request, LENT};
+use crate::answers::{answer, page_outcome, rendered, Answer, Operation, Outcome, Request, LENT};
 use crate::field::{self, Field};
+use crate::numbers::Number;
 use crate::subject::{Said, Subject};
 use crate::tags::*;
 
@@ -171,4 +172,52 @@ fn fit_refused(request: &Request) -> Outcome {
         said.lent.fill(LENT);
     }
     said
+}
+
+/// A subject that is right but for one number of an HTML body.
+pub struct Misprinter {
+    pub number: Number,
+    pub right: &'static str,
+    pub wrong: &'static str,
+}
+
+/// The number, what the original prints with what stands around it, and what is printed instead.
+#[rustfmt::skip] // one row, one line
+const MISPRINTS: [(Number, &str, &str); 8] = [
+    (Number::Opacity(0x3e81_0000), ",0.25195313)", ",0.25195312)"),
+    (Number::Opacity(LEAST_OPACITY), ",0.0009765625)", ",0.000976563)"),
+    (Number::Opacity(FULL_OPACITY), ",1)", ",1.0)"),
+    (Number::Opacity(0), ",0)", ",-0)"),
+    (Number::Size(-128), ":-11.8em", ":-11.9em"),
+    (Number::Size(117), ":12.700000000000001em", ":12.7em"),
+    (Number::Thickness(-128), ":-12300;", ":12300;"),
+    (Number::Thickness(127), ":13200;", ":13100;"),
+];
+
+pub fn misprinters() -> Vec<Misprinter> {
+    let misprinters = MISPRINTS.map(|(number, right, wrong)| Misprinter {
+        number,
+        right,
+        wrong,
+    });
+    misprinters.into()
+}
+
+impl Subject for Misprinter {
+    fn parts(&self) -> &[Operation] {
+        &[Operation::Body]
+    }
+
+    /// A longer number makes a longer page, which needs more room.
+    fn answer(&mut self, requests: &[Request]) -> Result<Vec<Said>, String> {
+        let misprinted = |page: Vec<u8>| {
+            let page = String::from_utf8(page).expect("an HTML body is UTF-8");
+            page.replace(self.right, self.wrong).into_bytes()
+        };
+        let says = |request: &Request| {
+            let page = rendered(request.operation, &request.file).map(misprinted);
+            Ok(page_outcome(&page, request.room))
+        };
+        Ok(requests.iter().map(says).collect())
+    }
 }

@@ -8,3 +8,4 @@ pub mod Rows
 pub mod Nodes
 pub mod OfTrees
 pub mod WholeLaws
+pub mod Determined

@@ -2,3 +2,4 @@
 pub mod Spaces
 pub mod Breaks
 pub mod Steps
+pub mod Determined

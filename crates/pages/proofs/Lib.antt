@@ -14,3 +14,4 @@ pub mod TextLines
 pub mod LeafLaws
 pub mod WalkLaws
 pub mod WholeLaws
+pub mod Determined

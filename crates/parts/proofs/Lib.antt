@@ -2,3 +2,4 @@
 pub mod Spans
 pub mod Loops
 pub mod OfFields
+pub mod Determined

@@ -8,3 +8,4 @@ pub mod DepthLaws
 pub mod LoopLaws
 pub mod CheckLaws
 pub mod Verdicts
+pub mod Determined

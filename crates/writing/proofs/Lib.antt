@@ -1,2 +1,3 @@
 -- What a turn of the writing loops does.
 pub mod Turns
+pub mod Determined

@@ -1,0 +1,129 @@
+-- How far the public contracts reach: no second outcome satisfies one, and each of document 01's five wrong programs fails one at an input named here.
+use mathlib.Core.Path.{_≡_, refl, sym, _∙_, ap}
+use mathlib.Core.List.{List, []}
+use Prim.Native.Nat.{ℕ}
+use native.Mathlib.Omega.{arith}
+use lib.ListN.{length, getD, replicate}
+use Rattle.rules.specs.declared.Refusal.{Refusal}
+use Rattle.rules.specs.declared.Answer.{Answer}
+use Rattle.rules.specs.declared.Answer.the-variants.{Done, Refused}
+use Rattle.rules.specs.Result.{Result, refused, accepted, said}
+use Rattle.rules.specs.Tree.{Frag}
+use Rattle.rules.specs.Encode.{encode}
+use Rattle.rules.specs.Answers.{check-answer, laid-out, changed, left-laid, layout-outcome, plain-outcome, body-outcome, document-outcome}
+use Rattle.rules.specs.Cases.{unhex, call}
+use Rattle.rules.proofs.Chains.{no-path}
+use Rattle.rules.proofs.Open.{all-open}
+use Rattle.rules.proofs.Unique.{said-unique, outcome-unique}
+
+-- ---- NO SECOND OUTCOME SATISFIES A CONTRACT: two answers that do, and the bytes left with them, are equal
+
+pub check-determined : (s : List ℕ) (a b : Answer) → said a ≡ check-answer s → said b ≡ check-answer s → a ≡ b
+check-determined s a b x y = said-unique a b (x ∙ sym y)
+
+pub layout-determined : (w : ℕ) (s : List ℕ) (a b : Answer) (r u : List ℕ) → (said a, r) ≡ layout-outcome w s → (said b, u) ≡ layout-outcome w s → (a ≡ b) × (r ≡ u)
+layout-determined w s = outcome-unique (layout-outcome w s)
+
+pub plain-determined : (s q : List ℕ) (a b : Answer) (r u : List ℕ) → (said a, r) ≡ plain-outcome s q → (said b, u) ≡ plain-outcome s q → (a ≡ b) × (r ≡ u)
+plain-determined s q = outcome-unique (plain-outcome s q)
+
+pub body-determined : (s q : List ℕ) (a b : Answer) (r u : List ℕ) → (said a, r) ≡ body-outcome s q → (said b, u) ≡ body-outcome s q → (a ≡ b) × (r ≡ u)
+body-determined s q = outcome-unique (body-outcome s q)
+
+pub document-determined : (s q : List ℕ) (a b : Answer) (r u : List ℕ) → (said a, r) ≡ document-outcome s q → (said b, u) ≡ document-outcome s q → (a ≡ b) × (r ≡ u)
+document-determined s q = outcome-unique (document-outcome s q)
+
+-- ---- 1. CODE THAT REFUSES EVERYTHING: at the empty file, with a page that is long enough, no refusal satisfies a contract
+
+not-refused : {n : ℕ} (x : Refusal) (o : Result ℕ) → said (Refused x) ≡ o → o ≡ accepted n → ⊥
+unfolding said
+not-refused {n} x o e f =
+    let d : Refused x ≡ Done n = said-unique (Refused x) (Done n) (e ∙ f) in
+    no-path cc
+
+pub check-refuses-not-all : (x : Refusal) → said (Refused x) ≡ check-answer [] → ⊥
+unfolding all-open
+check-refuses-not-all x e = not-refused x (check-answer []) e refl
+
+pub layout-refuses-not-all : (x : Refusal) (t : List ℕ) → (said (Refused x), t) ≡ layout-outcome 0 [] → ⊥
+unfolding all-open
+layout-refuses-not-all x t e = not-refused x (layout-outcome 0 [] .0) (ap (λ o. o .0) e) refl
+
+pub plain-refuses-not-all : (x : Refusal) (r : List ℕ) → (said (Refused x), r) ≡ plain-outcome [] [] → ⊥
+unfolding all-open
+plain-refuses-not-all x r e = not-refused x (plain-outcome [] [] .0) (ap (λ o. o .0) e) refl
+
+pub body-refuses-not-all : (x : Refusal) (r : List ℕ) → (said (Refused x), r) ≡ body-outcome [] (replicate 63 0) → ⊥
+unfolding all-open
+body-refuses-not-all x r e = not-refused x (body-outcome [] (replicate 63 0) .0) (ap (λ o. o .0) e) refl
+
+pub document-refuses-not-all : (x : Refusal) (r : List ℕ) → (said (Refused x), r) ≡ document-outcome [] (replicate 1_072 0) → ⊥
+unfolding all-open
+document-refuses-not-all x r e = not-refused x (document-outcome [] (replicate 1_072 0) .0) (ap (λ o. o .0) e) refl
+
+-- ---- 2. ONE FIXED PAGE FOR ALL FILES: no page satisfies a contract both of the file of the text `x` and of the file of the text `y`
+
+unfoldable pub x-file : List ℕ
+x-file = unhex "010004 110001 78"
+
+unfoldable pub y-file : List ℕ
+y-file = unhex "010004 110001 79"
+
+-- the bytes left at the place k differ
+differ : (k : ℕ) (o o′ : Result ℕ × List ℕ) {b b′ : Result ℕ} {r : List ℕ} → (b, r) ≡ o → (b′, r) ≡ o′ → getD (o .1) k 0 ≡ 120 → getD (o′ .1) k 0 ≡ 121 → ⊥
+differ k o o′ e e′ x y = omega (arith, ap (λ o. getD (o .1) k 0) e, ap (λ o. getD (o .1) k 0) e′)
+
+pub plain-not-fixed : (r : List ℕ) (a b : Answer) → (said a, r) ≡ plain-outcome x-file (replicate 1 0) → (said b, r) ≡ plain-outcome y-file (replicate 1 0) → ⊥
+unfolding all-open x-file y-file
+plain-not-fixed r a b e e′ = differ 0 (plain-outcome x-file (replicate 1 0)) (plain-outcome y-file (replicate 1 0)) e e′ refl refl
+
+pub body-not-fixed : (r : List ℕ) (a b : Answer) → (said a, r) ≡ body-outcome x-file (replicate 64 0) → (said b, r) ≡ body-outcome y-file (replicate 64 0) → ⊥
+unfolding all-open x-file y-file
+body-not-fixed r a b e e′ = differ 57 (body-outcome x-file (replicate 64 0)) (body-outcome y-file (replicate 64 0)) e e′ refl refl
+
+pub document-not-fixed : (r : List ℕ) (a b : Answer) → (said a, r) ≡ document-outcome x-file (replicate 1_073 0)
+    → (said b, r) ≡ document-outcome y-file (replicate 1_073 0) → ⊥
+unfolding all-open x-file y-file
+document-not-fixed r a b e e′ = differ 1_050 (document-outcome x-file (replicate 1_073 0)) (document-outcome y-file (replicate 1_073 0)) e e′ refl refl
+
+-- ---- 3. A LAYOUT THAT CHANGES NO TAG: P2's file is not left as it was at width 6; the tag at 8 becomes 3
+
+pub layout-changes-a-tag : (a : Answer) → (said a, unhex call) ≡ layout-outcome 6 (unhex call) → ⊥
+unfolding all-open
+layout-changes-a-tag a e = let h : _≡_ {A = ℕ} 4 3 = ap (λ o. getD (o .1) 8 0) e in omega arith
+
+-- ---- 4. ONE THAT DECIDES THE FIRST BLOCK RIGHTLY AND SKIPS THE OTHERS: of two blocks, at 0 and at 13, both change at width 0
+
+unfoldable pub two-blocks : List ℕ
+two-blocks = unhex "04000A 080007 010004 110001 61 04000A 080007 010004 110001 62"
+
+pub both-blocks-change : layout-outcome 0 two-blocks ≡ (accepted 2, unhex "03000A 080007 010004 110001 61 03000A 080007 010004 110001 62")
+unfolding all-open two-blocks
+both-blocks-change = refl
+
+-- so the second one's tag is not left as it was, whatever the answer
+pub layout-skips-no-block : (a : Answer) (t : List ℕ) → (said a, t) ≡ layout-outcome 0 two-blocks → getD t 13 0 ≡ 4 → ⊥
+unfolding all-open two-blocks
+layout-skips-no-block a t e skipped = omega (arith, ap (λ o. getD (o .1) 13 0) e)
+
+-- ---- 5. AN INVENTED COUNT: of P2's file at width 6 no count but 1 satisfies the contract
+
+pub layout-counts-one : (n : ℕ) (t : List ℕ) → (said (Done n), t) ≡ layout-outcome 6 (unhex call) → (n ≡ 1 → ⊥) → ⊥
+unfolding all-open said
+layout-counts-one n t e other =
+    let h : _≡_ {A = Result ℕ} (accepted n) (accepted 1) = ap (λ o. o .0) e in
+    other cc
+
+-- and of any file and width none but the number of bytes that changed
+pub layout-counts : (w : ℕ) (s : List ℕ) (n : ℕ) (t : List ℕ) → (said (Done n), t) ≡ layout-outcome w s → n ≡ length (changed 0 s t)
+unfolding said layout-outcome left-laid
+layout-counts w s n t e = go (laid-out w s) e
+  where
+    go : (x : Result (Frag ℕ)) → (accepted n, t) ≡ left-laid s x → n ≡ length (changed 0 s t)
+    go (refused m p) e =
+        let h : _≡_ {A = Result ℕ} (accepted n) (refused m p) = ap (λ o. o .0) e in
+        no-path cc
+    go (accepted u) e =
+        let h : _≡_ {A = Result ℕ} (accepted n) (accepted (length (changed 0 s (encode u)))) = ap (λ o. o .0) e in
+        let count : n ≡ length (changed 0 s (encode u)) = cc in
+        count ∙ ap (λ (t : List ℕ). length (changed 0 s t)) (sym (ap (λ o. o .1) e))

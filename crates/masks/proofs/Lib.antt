@@ -1,0 +1,2 @@
+-- Lengths of parts.
+pub mod Taken
