@@ -73,7 +73,7 @@ pub fn start() -> Machine
 }
 
 // The levels that an item wants: the indent, or 0 for an empty anchor (`bare`) on a line without levels.
-fn target(indent: usize, bare: bool, k: usize) -> usize
+fn target_indent(indent: usize, bare: bool, k: usize) -> usize
     ensures { λ r. ⌜ r ≡ rules.target indent bare k ⌝ }
 {
     if bare {
@@ -109,8 +109,8 @@ fn spacing(indent: usize, bare: bool, line: LineState) -> Brought
     ensures { λ r. ⌜ brought-of r ≡ rules.spacing indent bare (line-of line) ⌝ }
 {
     match line {
-        LineState::Empty => levels(0, target(indent, bare, 0)),
-        LineState::Indented(k) => levels(k, target(indent, bare, k)),
+        LineState::Empty => levels(0, target_indent(indent, bare, 0)),
+        LineState::Indented(k) => levels(k, target_indent(indent, bare, k)),
         LineState::HasText => Brought {
             new_line: false,
             spaces: 0,

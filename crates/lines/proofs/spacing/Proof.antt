@@ -8,29 +8,29 @@ use Rattle.lines.proofs.spacing.Tie as tie
 enum-told : tie.Need-enum-told
 enum-told c = search needs
 
-target-requires : tie.Need-target-requires
-target-requires c κs = search needs
+target-indent-requires : tie.Need-target-indent-requires
+target-indent-requires c κs = search needs
 
 levels-requires : tie.Need-levels-requires
-levels-requires c κs = target-below _ _ _ (c .target .ensures) (c .before .before .before .pre)
+levels-requires c κs = target-below _ _ _ (c .target-indent .ensures) (c .before .before .before .pre)
 
 enum-known-line : tie.Need-enum-known-line
 enum-known-line c = search needs
 
-target-requires-2 : tie.Need-target-requires-2
-target-requires-2 c κs = search needs
+target-indent-requires-2 : tie.Need-target-indent-requires-2
+target-indent-requires-2 c κs = search needs
 
 levels-requires-2 : tie.Need-levels-requires-2
-levels-requires-2 c κs = target-below _ _ _ (c .target2 .ensures) (c .before .before .before .before .pre)
+levels-requires-2 c κs = target-below _ _ _ (c .target-indent2 .ensures) (c .before .before .before .before .pre)
 
 enum-told-2 : tie.Need-enum-told-2
 enum-told-2 c = search needs
 
 returns : tie.Need-returns
-returns c = spaced-empty _ _ (c .before .before .enum-told .given .1) (c .before .target .ensures) (c .levels .ensures)
+returns c = spaced-empty _ _ (c .before .before .enum-told .given .1) (c .before .target-indent .ensures) (c .levels .ensures)
 
 returns-2 : tie.Need-returns-2
-returns-2 c = spaced-indented _ _ (c .before .before .before .line .given .1) (c .before .target2 .ensures) (c .levels2 .ensures)
+returns-2 c = spaced-indented _ _ (c .before .before .before .line .given .1) (c .before .target-indent2 .ensures) (c .levels2 .ensures)
 
 returns-3 : tie.Need-returns-3
 returns-3 c = spaced-text _ _ (c .enum-told2 .given .1) refl
@@ -40,10 +40,10 @@ spacing-spec =
     tie.close
     (tie.spec
     enum-told
-    target-requires
+    target-indent-requires
     levels-requires
     enum-known-line
-    target-requires-2
+    target-indent-requires-2
     levels-requires-2
     enum-told-2
     returns
