@@ -3,10 +3,8 @@ use mathlib.Core.Path.{_≡_, refl, sym, ap, _∙_}
 use mathlib.Core.List.{List, []}
 use mathlib.Core.Bool.{Bool, true, false}
 use Prim.Native.Nat.{ℕ, _-_, _≤_, _<_}
-use native.Mathlib.Omega.{arith}
 use lib.Dec.{eqb}
-use lib.ListN.{length, take, drop, length-drop}
-use lib.Seq.{take-all}
+use lib.ListN.{length, take, drop}
 use borrow.Author.Tests.{eq-eqb, ne-eqb, le-leb, lt-leb}
 use Rattle.rules.specs.Bytes.{newline}
 use Rattle.rules.specs.Lines.{text-ops}
@@ -14,6 +12,7 @@ use Rattle.fields.specs.declared.Field.{Field}
 use Rattle.fields.specs.declared.Field.the-variants.{Whole, Past, Cut}
 use Rattle.fields.specs.FieldAt.{field-at}
 use Rattle.parts.specs.Walk.{part}
+use Rattle.parts.proofs.Spans.{behind}
 use Rattle.lines.specs.Said.{break-of}
 use Rattle.lines.specs.declared.Break.the-variants as Break
 use Rattle.lines.specs.declared.LineOp.the-variants as Op
@@ -25,10 +24,6 @@ use Rattle.pages.proofs.Running.{nothing, and-then, by, pushed-styles, 
 -- a field that is not whole
 abbrev NotWhole : Field → Type 0
 NotWhole f = (t from to : ℕ) → f ≡ Whole t from to → ⊥
-
--- what follows the three bytes of a header, as the code takes it
-pub behind : (h : List ℕ) → take (length h - 3) (drop 3 h) ≡ drop 3 h
-behind h = take-all (length h - 3) (drop 3 h) (omega (arith, length-drop 3 h))
 
 -- ---- a text
 

@@ -10,12 +10,12 @@ use Rattle.lines.specs.Said.{break-of}
 use Rattle.lines.specs.declared.Break.the-variants as Break
 use Rattle.lines.specs.declared.LineOp.the-variants as Op
 use Rattle.parts.specs.Walk.{Ends}
+use Rattle.parts.proofs.Spans.{behind}
 use Rattle.pages.specs.OpsIn.{Ops, each-from, leaf-in, node-by, behind-fragment, fragments-by, indented-by, node-in, three-in, fragment-in}
 use Rattle.pages.specs.Ran.{Interpreted, Rendered}
 use Rattle.pages.specs.declared.pen.Pen.{Pen}
 use Rattle.pages.proofs.Running.{nothing, and-then, broke, indented}
 use Rattle.pages.proofs.Going.{Going, going-more, going-ends}
-use Rattle.pages.proofs.LeafLaws.{behind}
 
 -- ---- a node
 

@@ -3,8 +3,8 @@ use mathlib.Core.Path.{_≡_}
 use mathlib.Core.List.{List}
 use Prim.Native.Nat.{ℕ, _+_, _-_, _*_, _<_, _≤_}
 use native.Mathlib.Omega.{arith}
-use lib.ListN.{length, getD, drop, length-drop}
-use lib.Seq.{getD-drop}
+use lib.ListN.{length, getD, take, drop, length-drop}
+use lib.Seq.{getD-drop, take-all}
 use Rattle.parts.specs.Walk.{span, Ends}
 
 pub span-le : (s : List ℕ) → span s ≤ length s
@@ -34,3 +34,7 @@ end-after {s} {at} e h = omega (arith, span-positive (drop at s) (rw length-drop
 
 pub end-within : {s : List ℕ} {at to : ℕ} → Ends s at to → at < length s → to ≤ length s
 end-within {s} {at} e h = omega (arith, span-le (drop at s), length-drop at s)
+
+-- what follows the three bytes of a header, as the code takes it
+pub behind : (h : List ℕ) → take (length h - 3) (drop 3 h) ≡ drop 3 h
+behind h = take-all (length h - 3) (drop 3 h) (omega (arith, length-drop 3 h))

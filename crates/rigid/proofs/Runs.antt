@@ -12,9 +12,9 @@ use Rattle.fields.specs.declared.Field.the-variants.{Whole, Past, Cut}
 use Rattle.fields.specs.FieldAt.{field-at}
 use Rattle.styles.specs.StylesIn.{styles-in}
 use Rattle.parts.specs.Walk.{part, fold, span, here, Ends}
+use Rattle.parts.proofs.Spans.{behind}
 use Rattle.parts.proofs.Loops.{Left, left-starts, left-more, left-ends, fold-nil, fold-step}
 use Rattle.rigid.specs.RigidIn.{text-in, chars-in, styled-in, run-in, with-run, anchor-in}
-use Rattle.rigid.proofs.Tags.{behind}
 
 -- ---- the fields of a 1
 

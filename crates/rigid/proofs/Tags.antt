@@ -4,12 +4,12 @@ use mathlib.Core.List.{List}
 use Prim.Native.Nat.{ℕ, _*_, _-_, _≤_, _<_}
 use native.Mathlib.Omega.{arith}
 use native.Mathlib.Nat.{mul-le-mul-right}
-use lib.ListN.{length, getD, take, drop, length-drop}
-use lib.Seq.{take-all}
+use lib.ListN.{length, getD, take, drop}
 use mir.Syntax.{w64}
 use mir.Val.{Fits}
 use borrow.Author.Tests.{ne-eqb, le-leb, lt-leb}
 use Rattle.rules.specs.Bytes.{cap}
+use Rattle.parts.proofs.Spans.{behind}
 use Rattle.shapes.proofs.Appending.{cap-under, cap-over}
 use Rattle.rules.specs.Layout.{Shape, Inline, Block, only-if-block}
 use Rattle.shapes.specs.declared.ApproxLayout as Code
@@ -83,10 +83,6 @@ module _ (v : List ℕ) {t : ℕ} {r : Shape} where
   other-tag n1 n2 n3 n5 n6 n7 h = rw (ne-eqb t 1 n1, ne-eqb t 2 n2, ne-eqb t 3 n3, ne-eqb t 5 n5, ne-eqb t 6 n6, ne-eqb t 7 n7) h
 
 -- ---- a whole field
-
--- what follows the three bytes of a header, as the code takes it
-pub behind : (h : List ℕ) → take (length h - 3) (drop 3 h) ≡ drop 3 h
-behind h = take-all (length h - 3) (drop 3 h) (omega (arith, length-drop 3 h))
 
 module _ (h : List ℕ) {r : Shape} where
   pub no-node : length h < 3 → r ≡ Inline 0 0 → r ≡ rigid-in h
