@@ -109,7 +109,7 @@ def bounded(command, seconds, settings=None):
 
 
 def end_group(process):
-    """Ends the processes of the session that this one began."""
+    """Ends the process and whatever it has started since."""
     with contextlib.suppress(ProcessLookupError):
         os.killpg(process.pid, signal.SIGKILL)
     process.wait()
