@@ -6,7 +6,7 @@ use Rattle.rules.specs.Html.{opening, closing, before-body, after-body}
 use Rattle.writing.specs.Written.{Written}
 use Rattle.writing.specs.Laws as writing
 use Rattle.pages.specs.Kinds.{form-of, head, foot}
-use Rattle.pages.specs.declared.pen.Form as F
+use Rattle.pages.specs.declared.state.Form as F
 use Rattle.pages.specs.declared.frame.Kind as K
 
 module _ (k : K.Kind) where

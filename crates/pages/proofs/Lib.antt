@@ -6,6 +6,7 @@ pub mod ItemCosts
 pub mod PageLengths
 pub mod StyleLengths
 pub mod HtmlLengths
+pub mod StateLaws
 pub mod Running
 pub mod Pens
 pub mod Frames

@@ -18,10 +18,11 @@ use Rattle.lines.specs.declared.Break.{Break}
 use Rattle.lines.specs.declared.Waiting as W
 use Rattle.lines.specs.declared.LineOp as O
 use Rattle.lines.specs.declared.Before.{Before}
+use Rattle.lines.specs.declared.Machine.{Machine}
 use Rattle.lines.specs.declared.Stepped.{Stepped}
 use Rattle.lines.specs.Said.{machine-of, break-bytes, spacing-bytes, before-bytes, step-of, operation, copies, own}
-use Rattle.pages.specs.Ran.{shown, after, machine, Interpreted}
-use Rattle.pages.specs.declared.pen.Form as F
+use Rattle.pages.specs.Ran.{shown, after, machine, form, Interpreted}
+use Rattle.pages.specs.declared.state.Form as F
 use Rattle.pages.specs.declared.pen.Pen.{Pen}
 use Rattle.pages.proofs.Running.{shown-append}
 
@@ -170,19 +171,19 @@ unfolding shown
 shown-making F.the-variants.Plain bs = made-chars bs
 shown-making F.the-variants.Html bs = made-html bs
 
-pub one-operation : (op : O.LineOp) (v : List ℕ) {p p′ : Pen} {page page₁ page₂ : List ℕ} {b : ℕ} (s : Stepped)
-    → step-of s (own op v) ≡ step (machine-of (p .machine)) (operation op v)
-    → Written page (p .at) (before-bytes (s .before)) page₁ b → Written page₁ b (shown (p .form) (own op v)) page₂ (p′ .at) → p′ .machine ≡ s .machine → p′ .form ≡ p .form
-    → Interpreted op v p page p′ page₂
+pub one-operation : (op : O.LineOp) (v : List ℕ) (m : Machine) (f : F.Form) {p p′ : Pen} {page page₁ page₂ : List ℕ} {b : ℕ} (s : Stepped) → machine-of m ≡ machine p → f ≡ form p
+    → step-of s (own op v) ≡ step (machine-of m) (operation op v) → Written page (p .at) (before-bytes (s .before)) page₁ b → Written page₁ b (shown f (own op v)) page₂ (p′ .at)
+    → machine p′ ≡ machine-of (s .machine) → form p′ ≡ f → Interpreted op v p page p′ page₂
 unfolding step-of after run
-one-operation op v {p} {p′} s e f g is form =
+one-operation op v m f {p} {p′} s mine its e w own-w is kept =
     let items : List (Item ℕ) = making (before-bytes (s .before)) ++ own op v in
-    let shows : shown (p .form) (items ++ []) ≡ before-bytes (s .before) ++ shown (p .form) (own op v) =
-    rw (append-nil items, shown-append (p .form) (making (before-bytes (s .before))) (own op v), shown-making (p .form) (before-bytes (s .before))) in
+    let shows : shown f (items ++ []) ≡ before-bytes (s .before) ++ shown f (own op v) =
+    rw (append-nil items, shown-append f (making (before-bytes (s .before))) (own op v), shown-making f (before-bytes (s .before))) in
+    let stepped : step-of s (own op v) ≡ step (machine p) (operation op v) = e ∙ ap (λ x. step x (operation op v)) mine in
     record {
       ran = record {
-        machine-then = ap machine-of is ∙ ap (λ x. x .1) e;
-        written = rw (← (ap (λ x. x .0) e), shows) (writing.then f g);
-        form-kept = form;
+        machine-then = is ∙ ap (λ x. x .1) stepped;
+        written = rw (← (ap (λ x. x .0) stepped), ← its, shows) (writing.then w own-w);
+        form-kept = kept ∙ its;
       };
     }

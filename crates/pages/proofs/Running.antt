@@ -10,13 +10,13 @@ use Rattle.rules.specs.Plain.{chars, fill}
 use Rattle.rules.specs.Html.{escape, item-html, items-html}
 use Rattle.rules.specs.Answers.{itself}
 use Rattle.writing.specs.Laws as writing
-use Rattle.lines.specs.Said.{machine-of, break-of, operation}
+use Rattle.lines.specs.Said.{break-of, operation}
 use Rattle.lines.specs.declared.Break.{Break}
 use Rattle.styles.specs.StylesIn.{styles-in}
 use Rattle.lines.specs.declared.LineOp.the-variants as Op
 use Rattle.pages.specs.OpsIn.{Ops}
-use Rattle.pages.specs.Ran.{shown, after, machine, Ran, Interpreted, Rendered}
-use Rattle.pages.specs.declared.pen.Form as F
+use Rattle.pages.specs.Ran.{shown, after, machine, form, indent-of, Ran, Interpreted, Rendered}
+use Rattle.pages.specs.declared.state.Form as F
 use Rattle.pages.specs.declared.pen.Pen.{Pen}
 
 -- ---- what items show
@@ -66,7 +66,7 @@ module _ {p p′ p″ : Pen} {page page′ page″ : List ℕ} {xs ys : Ops} whe
       let m = machine p in
       record {
         machine-then = g .machine-then ∙ rw (f .machine-then, after-append m xs ys);
-        written = rw (run-append m xs ys, shown-append (p .form) (run m xs) (run (after m xs) ys))
+        written = rw (run-append m xs ys, shown-append (form p) (run m xs) (run (after m xs) ys))
             (writing.then (f .written) (rw (f .machine-then, f .form-kept) at (g .written)));
         form-kept = g .form-kept ∙ f .form-kept;
       }
@@ -81,7 +81,7 @@ shown-nothing F.the-variants.Html = refl
 
 pub nothing : {p : Pen} {page : List ℕ} → Rendered [] p page p page
 unfolding after run
-nothing {p} = record { ran = record { machine-then = refl; written = rw (shown-nothing (p .form)) writing.nothing; form-kept = refl }; indent-kept = refl }
+nothing {p} = record { ran = record { machine-then = refl; written = rw (shown-nothing (form p)) writing.nothing; form-kept = refl }; indent-kept = refl }
 
 -- the page's length is kept
 pub kept : {p p′ : Pen} {page page′ : List ℕ} {os : Ops} → Rendered os p page p′ page′ → length page′ ≡ length page
@@ -119,12 +119,12 @@ level-kept m rules.unindent q = absurd q
 
 module _ {p p′ : Pen} {page page′ : List ℕ} where
   -- the machine's level after one operation is the pen's indent
-  indent-then : {o : LineOp ℕ} → Ran (o ∷ []) p page p′ page′ → p′ .machine .indent ≡ step (machine p) o .1 .level
-  unfolding after machine-of
+  indent-then : {o : LineOp ℕ} → Ran (o ∷ []) p page p′ page′ → indent-of p′ ≡ step (machine p) o .1 .level
+  unfolding after indent-of
   indent-then f = ap (λ (m : Machine). m .level) (f .machine-then)
 
   quiet : (o : LineOp ℕ) → Quiet o → Ran (o ∷ []) p page p′ page′ → Rendered (o ∷ []) p page p′ page′
-  unfolding machine-of
+  unfolding indent-of
   quiet o q f = record { ran = f; indent-kept = indent-then f ∙ level-kept (machine p) o q }
 
   -- the code's operations, by name
@@ -162,14 +162,14 @@ module _ {p p′ : Pen} {page page′ : List ℕ} where
     anchored {d} f = quiet (empty-anchor d v) tt (f .ran)
 
     -- and those that change the indent
-    pub deeper : Interpreted Op.PushIndent v p page p′ page′ → p′ .machine .indent ≡ suc (p .machine .indent)
-    unfolding operation step machine-of
+    pub deeper : Interpreted Op.PushIndent v p page p′ page′ → indent-of p′ ≡ suc (indent-of p)
+    unfolding operation step indent-of
     deeper f = indent-then (f .ran)
 
 -- what stands between a push and a pop of the indent keeps it
 pub indented : {p p₁ p₂ p₃ : Pen} {page page₁ page₂ page₃ v w : List ℕ} {os : Ops} → Interpreted Op.PushIndent v p page p₁ page₁
     → Rendered os p₁ page₁ p₂ page₂ → Interpreted Op.PopIndent w p₂ page₂ p₃ page₃ → Rendered (rules.indent ∷ (os ++ (rules.unindent ∷ []))) p page p₃ page₃
-unfolding operation step machine-of
+unfolding operation step indent-of
 indented f g h =
     record {
       ran = then-ran (f .ran) (then-ran (g .ran) (h .ran));

@@ -23,9 +23,8 @@ use Rattle.verify.proofs.Verdicts.{RefusedSo, refused-so, AcceptedAs, accepted-
 use Rattle.writing.specs.Written.{last, Written}
 use Rattle.writing.specs.Laws as writing
 use Rattle.writing.specs.Laws.{how-long, fits, no-page}
-use Rattle.lines.specs.Said.{machine-of}
 use Rattle.pages.specs.OpsIn.{fragment-in}
-use Rattle.pages.specs.Ran.{shown, Rendered}
+use Rattle.pages.specs.Ran.{shown, machine, form, Rendered}
 use Rattle.pages.specs.Kinds.{form-of, head, foot, page-in, page-of, page-outcome}
 use Rattle.pages.specs.declared.frame.Kind as K
 use Rattle.pages.specs.declared.frame.Kind.{Kind}
@@ -38,8 +37,8 @@ use Rattle.pages.proofs.Pens.{fill-makes}
 
 -- ---- the pen over a whole file
 
-pub whole-page : (k : Kind) (s : List ℕ) {p p′ : Pen} {page page₁ page₂ page₃ : List ℕ} {r : ℕ} → Written page 0 (head k) page₁ (p .at) → p .form ≡ form-of k
-    → machine-of (p .machine) ≡ start → Rendered (fragment-in 32 false 0 s) p page₁ p′ page₂ → Written page₂ (p′ .at) (foot k) page₃ r
+pub whole-page : (k : Kind) (s : List ℕ) {p p′ : Pen} {page page₁ page₂ page₃ : List ℕ} {r : ℕ} → Written page 0 (head k) page₁ (p .at) → form p ≡ form-of k
+    → machine p ≡ start → Rendered (fragment-in 32 false 0 s) p page₁ p′ page₂ → Written page₂ (p′ .at) (foot k) page₃ r
     → Written page 0 (page-in k s) page₃ r
 unfolding page-in
 whole-page k s h f e r g = writing.then h (writing.then (rw (f, e) at (r .ran .written)) g)

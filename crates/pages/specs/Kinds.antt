@@ -11,7 +11,7 @@ use Rattle.rules.specs.Html.{escape, opening, closing, before-body, after-body,
 use Rattle.rules.specs.Answers.{itself, plain-outcome, body-outcome, document-outcome}
 use Rattle.pages.specs.OpsIn.{fragment-in}
 use Rattle.pages.specs.Ran.{shown}
-use Rattle.pages.specs.declared.pen.Form as F
+use Rattle.pages.specs.declared.state.Form as F
 use Rattle.pages.specs.declared.frame.Kind as K
 
 unfoldable pub form-of : K.Kind → F.Form

@@ -7,10 +7,11 @@ use Rattle.rules.specs.Plain.{chars, fill}
 use Rattle.rules.specs.Html.{escape, items-html}
 use Rattle.rules.specs.Answers.{itself}
 use Rattle.writing.specs.Written.{Written}
-use Rattle.lines.specs.Said.{machine-of, operation}
+use Rattle.lines.specs.Said.{operation}
 use Rattle.lines.specs.declared.LineOp.{LineOp}
 use Rattle.pages.specs.OpsIn.{Ops}
-use Rattle.pages.specs.declared.pen.Form as F
+use Rattle.pages.specs.States.{machine-in, form-in}
+use Rattle.pages.specs.declared.state.Form as F
 use Rattle.pages.specs.declared.pen.Pen as Code
 
 -- the bytes that items show
@@ -24,13 +25,19 @@ after m [] = m
 after m (o ∷ os) = after (step m o .1) os
 
 abbrev pub machine : Code.Pen → Machine
-machine p = machine-of (p .machine)
+machine p = machine-in (p .state)
+
+abbrev pub form : Code.Pen → F.Form
+form p = form-in (p .state)
+
+unfoldable pub indent-of : Code.Pen → ℕ
+indent-of p = machine p .level
 
 -- the pen p on a page has run the operations, and is p′ on page′
 pub record Ran (os : Ops) (p : Code.Pen) (page : List ℕ) (p′ : Code.Pen) (page′ : List ℕ) : Type 0 where
   pub machine-then : machine p′ ≡ after (machine p) os
-  pub written : Written page (p .at) (shown (p .form) (run (machine p) os)) page′ (p′ .at)
-  pub form-kept : p′ .form ≡ p .form
+  pub written : Written page (p .at) (shown (form p) (run (machine p) os)) page′ (p′ .at)
+  pub form-kept : form p′ ≡ form p
 
 -- it has run the one operation of the code with the bytes beside it
 pub record Interpreted (op : LineOp) (v : List ℕ) (p : Code.Pen) (page : List ℕ) (p′ : Code.Pen) (page′ : List ℕ) : Type 0 where
@@ -39,4 +46,4 @@ pub record Interpreted (op : LineOp) (v : List ℕ) (p : Code.Pen) (page : List 
 -- it has run the operations, and its indent is what it was
 pub record Rendered (os : Ops) (p : Code.Pen) (page : List ℕ) (p′ : Code.Pen) (page′ : List ℕ) : Type 0 where
   pub ran : Ran os p page p′ page′
-  pub indent-kept : p′ .machine .indent ≡ p .machine .indent
+  pub indent-kept : indent-of p′ ≡ indent-of p

@@ -11,11 +11,11 @@ ghost use Prim.Native.Nat.{_<_, _^_};
 ghost use Rattle.rules.specs.Bytes.{newline};
 ghost use Rattle.rules.specs.Lines.{text-ops};
 ghost use Rattle.pages.specs.OpsIn.{run-in, run-field-in, each-from, anchor-in, if-block-in, leaf-in};
-ghost use Rattle.pages.specs.Ran.{Rendered};
+ghost use Rattle.pages.specs.Ran.{indent-of, Rendered};
 
 // The bytes of a text: the part before the first newline, then for each later part a new line and the part.
 fn render_bytes(v: &[u8], page: &mut [u8], pen: Pen) -> Pen
-    requires { ⌜ pen .machine .indent < 2 ^ 32 ⌝ }
+    requires { ⌜ indent-of pen < 2 ^ 15 ⌝ }
     ensures { λ r. ⌜ Rendered (text-ops newline (now (v .entry))) pen (now (page .entry)) r (now (page .exit)) ⌝ }
 {
     let mut at = first_line_end(v);
@@ -32,7 +32,7 @@ fn render_bytes(v: &[u8], page: &mut [u8], pen: Pen) -> Pen
 
 // The value of a 1: a 17, or a 16 and a 17.
 fn render_text(v: &[u8], page: &mut [u8], pen: Pen) -> Pen
-    requires { ⌜ pen .machine .indent < 2 ^ 32 ⌝ }
+    requires { ⌜ indent-of pen < 2 ^ 15 ⌝ }
     ensures { λ r. ⌜ Rendered (run-in (now (v .entry))) pen (now (page .entry)) r (now (page .exit)) ⌝ }
 {
     let Field::Whole { tag, from, to } = field_at(v, 0) else {
@@ -56,7 +56,7 @@ fn render_text(v: &[u8], page: &mut [u8], pen: Pen) -> Pen
 
 // A field of a 2 behind its name.
 fn render_run(h: &[u8], page: &mut [u8], pen: Pen) -> Pen
-    requires { ⌜ pen .machine .indent < 2 ^ 32 ⌝ }
+    requires { ⌜ indent-of pen < 2 ^ 15 ⌝ }
     ensures { λ r. ⌜ Rendered (run-field-in (now (h .entry))) pen (now (page .entry)) r (now (page .exit)) ⌝ }
 {
     if h.len() < 3 {
@@ -67,7 +67,7 @@ fn render_run(h: &[u8], page: &mut [u8], pen: Pen) -> Pen
 
 // The fields of a 2 from `from` on.
 fn render_runs(v: &[u8], from: usize, page: &mut [u8], pen: Pen) -> Pen
-    requires { ⌜ pen .machine .indent < 2 ^ 32 ⌝ }
+    requires { ⌜ indent-of pen < 2 ^ 15 ⌝ }
     ensures { λ r. ⌜ Rendered (each-from run-field-in from (now (v .entry))) pen (now (page .entry)) r (now (page .exit)) ⌝ }
 {
     let mut p = pen;
@@ -82,7 +82,7 @@ fn render_runs(v: &[u8], from: usize, page: &mut [u8], pen: Pen) -> Pen
 
 // The value of a 2: without runs, one empty anchor.
 fn render_anchor(v: &[u8], page: &mut [u8], pen: Pen) -> Pen
-    requires { ⌜ pen .machine .indent < 2 ^ 32 ⌝ }
+    requires { ⌜ indent-of pen < 2 ^ 15 ⌝ }
     ensures { λ r. ⌜ Rendered (anchor-in (now (v .entry))) pen (now (page .entry)) r (now (page .exit)) ⌝ }
 {
     let Field::Whole { tag, from, to } = field_at(v, 0) else {
@@ -99,7 +99,7 @@ fn render_anchor(v: &[u8], page: &mut [u8], pen: Pen) -> Pen
 
 // The value of a 7, which counts only directly in a block.
 fn render_if_block(v: &[u8], page: &mut [u8], pen: Pen, directly_in_block: bool) -> Pen
-    requires { ⌜ pen .machine .indent < 2 ^ 32 ⌝ }
+    requires { ⌜ indent-of pen < 2 ^ 15 ⌝ }
     ensures { λ r. ⌜ Rendered (if-block-in «directly_in_block» (now (v .entry))) pen (now (page .entry)) r (now (page .exit)) ⌝ }
 {
     if directly_in_block {
@@ -110,7 +110,7 @@ fn render_if_block(v: &[u8], page: &mut [u8], pen: Pen, directly_in_block: bool)
 
 // A node that is no block, by its tag.
 pub fn render_leaf(tag: u8, v: &[u8], page: &mut [u8], pen: Pen, directly_in_block: bool) -> Pen
-    requires { ⌜ pen .machine .indent < 2 ^ 32 ⌝ }
+    requires { ⌜ indent-of pen < 2 ^ 15 ⌝ }
     ensures { λ r. ⌜ Rendered (leaf-in «directly_in_block» tag (now (v .entry))) pen (now (page .entry)) r (now (page .exit)) ⌝ }
 {
     match tag {

@@ -3,5 +3,6 @@
 pub mod frame;
 pub mod leaves;
 pub mod pen;
+pub mod state;
 pub mod walk;
 pub mod whole;

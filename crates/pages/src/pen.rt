@@ -1,7 +1,10 @@
 // The pen: the line machine, and how far the page is written. One operation at a time.
+use crate::state::Form;
+use crate::state::form_in;
+use crate::state::machine_in;
+use crate::state::state_of;
 use lines::Before;
 use lines::LineOp;
-use lines::Machine;
 use lines::Waiting;
 use lines::step;
 use markup::anchors::put_close_anchor;
@@ -19,19 +22,12 @@ ghost use Rattle.rules.specs.Bytes.{if_then_else_};
 ghost use Rattle.writing.specs.Written.{Written};
 ghost use Rattle.lines.specs.Said.{break-bytes, before-bytes, own};
 ghost use Rattle.lines.specs.declared.LineOp.the-variants as LineOp;
-ghost use Rattle.pages.specs.declared.pen.Form.the-variants as Form;
-ghost use Rattle.pages.specs.Ran.{shown, Interpreted};
-
-// How items are shown: texts alone, or texts escaped and marks as tags.
-pub enum Form {
-    Plain,
-    Html,
-}
+ghost use Rattle.pages.specs.declared.state.Form.the-variants as Form;
+ghost use Rattle.pages.specs.Ran.{shown, indent-of, Interpreted};
 
 pub struct Pen {
-    pub machine: Machine,
     pub at: usize,
-    pub form: Form,
+    pub state: usize,
 }
 
 // A break that waited.
@@ -112,15 +108,17 @@ fn put_own(page: &mut [u8], at: usize, form: Form, op: LineOp, text: &[u8]) -> u
 
 // One operation; the bytes it is about stand beside it.
 pub fn interpret(page: &mut [u8], pen: Pen, op: LineOp, text: &[u8]) -> Pen
-    requires { ⌜ pen .machine .indent < 2 ^ 32 ⌝ }
+    requires { ⌜ indent-of pen < 2 ^ 15 ⌝ }
     ensures { λ r. ⌜ Interpreted op (now (text .entry)) pen (now (page .entry)) r (now (page .exit)) ⌝ }
 {
-    let m = pen.machine;
-    let s = step(m, op, text);
+    let s = step(machine_in(pen.state), op, text);
     let b = s.before;
     let from = put_before(page, pen.at, b);
-    let form = pen.form;
+    let form = form_in(pen.state);
     let at = put_own(page, from, form, op, text);
     let machine = s.machine;
-    Pen { machine, at, form }
+    Pen {
+        at,
+        state: state_of(machine, form),
+    }
 }

@@ -7,11 +7,11 @@ use lines::LineOp;
 use parts::field_end;
 ghost use Prim.Native.Nat.{_+_, _<_, _^_};
 ghost use Rattle.pages.specs.OpsIn.{behind-fragment, fragments-by, three-in, node-in, fragment-in};
-ghost use Rattle.pages.specs.Ran.{Rendered};
+ghost use Rattle.pages.specs.Ran.{indent-of, Rendered};
 
 // A node, whose whole field is s.
 fn render_node(s: &[u8], page: &mut [u8], pen: Pen, directly_in_block: bool, left: usize) -> Pen
-    requires { ⌜ pen .machine .indent + left < 2 ^ 32 ⌝ }
+    requires { ⌜ indent-of pen + left < 2 ^ 15 ⌝ }
     ensures { λ r. ⌜ Rendered (node-in left «directly_in_block» (now (s .entry))) pen (now (page .entry)) r (now (page .exit)) ⌝ }
 {
     if s.len() < 3 {
@@ -32,7 +32,7 @@ fn render_node(s: &[u8], page: &mut [u8], pen: Pen, directly_in_block: bool, lef
 
 // An indented block, whose whole field is s.
 fn render_indented(s: &[u8], page: &mut [u8], pen: Pen, left: usize) -> Pen
-    requires { ⌜ pen .machine .indent + left < 2 ^ 32 ⌝ }
+    requires { ⌜ indent-of pen + left < 2 ^ 15 ⌝ }
     ensures { λ r. ⌜ Rendered (three-in left (now (s .entry))) pen (now (page .entry)) r (now (page .exit)) ⌝ }
 {
     if left == 0 {
@@ -46,7 +46,7 @@ fn render_indented(s: &[u8], page: &mut [u8], pen: Pen, left: usize) -> Pen
 
 // Behind a fragment of an indented block the line ends.
 fn end_fragment(page: &mut [u8], pen: Pen, directly_in_block: bool) -> Pen
-    requires { ⌜ pen .machine .indent < 2 ^ 32 ⌝ }
+    requires { ⌜ indent-of pen < 2 ^ 15 ⌝ }
     ensures { λ r. ⌜ Rendered (behind-fragment «directly_in_block») pen (now (page .entry)) r (now (page .exit)) ⌝ }
 {
     if directly_in_block {
@@ -63,7 +63,7 @@ fn render_fragments(
     directly_in_block: bool,
     left: usize,
 ) -> Pen
-    requires { ⌜ pen .machine .indent + left < 2 ^ 32 ⌝ }
+    requires { ⌜ indent-of pen + left < 2 ^ 15 ⌝ }
     ensures { λ r. ⌜ Rendered (fragments-by «directly_in_block» (node-in left «directly_in_block») (now (s .entry))) pen (now (page .entry)) r (now (page .exit)) ⌝ }
 {
     let mut p = pen;
@@ -86,7 +86,7 @@ pub fn render_fragment(
     directly_in_block: bool,
     left: usize,
 ) -> Pen
-    requires { ⌜ pen .machine .indent + left < 2 ^ 32 ⌝ }
+    requires { ⌜ indent-of pen + left < 2 ^ 15 ⌝ }
     ensures { λ r. ⌜ Rendered (fragment-in left «directly_in_block» from (now (s .entry))) pen (now (page .entry)) r (now (page .exit)) ⌝ }
 {
     let mut p = pen;

@@ -4,6 +4,7 @@ use crate::frame::form_of;
 use crate::frame::put_foot;
 use crate::frame::put_head;
 use crate::pen::Pen;
+use crate::state::state_of;
 use crate::walk::render_fragment;
 use lines::start;
 use rules::Answer;
@@ -20,11 +21,9 @@ fn render(kind: Kind, file: &[u8], page: &mut [u8]) -> usize
     ensures { λ r. ⌜ Written (now (page .entry)) 0 (page-in kind (now (file .entry))) (now (page .exit)) r ⌝ }
 {
     let at = put_head(page, 0, kind);
-    let form = form_of(kind);
     let pen = Pen {
-        machine: start(),
         at,
-        form,
+        state: state_of(start(), form_of(kind)),
     };
     let p = render_fragment(file, 0, page, pen, false, MAX_DEPTH);
     put_foot(page, p.at, kind)

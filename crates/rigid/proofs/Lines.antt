@@ -1,10 +1,9 @@
--- The bytes after the last newline, counted from the front, and a text by its parts.
+-- The bytes after the last newline, counted from the end, and a text by its parts.
 use mathlib.Core.Path.{_≡_, refl, sym, ap, _∙_}
 use mathlib.Core.List.{List, [], _∷_}
 use mathlib.Core.Bool.{Bool, true, false}
-use Prim.Native.Nat.{ℕ, suc, _+_, _≤_, _<_}
+use Prim.Native.Nat.{ℕ, zero, suc, _+_, _-_, _≤_, _<_}
 use native.Mathlib.Omega.{arith}
-use native.Mathlib.Numerals.{add-one}
 use lib.ListN.{length, drop, getD, drop-of-length-le}
 use lib.Seq.{drop-cons}
 use borrow.Author.Tests.{eq-eqb, ne-eqb}
@@ -50,33 +49,54 @@ unfolding last-from with-first parts put-front
 last-with n [] = omega arith
 last-with n (x ∷ s) = last-put (newline x) n x (parts newline s .0) (parts newline s .1) (last-with 0 s) (last-with (suc n) s)
 
--- the loop stands at `at`, and n bytes have followed the last newline before it
-pub record Counted (v : List ℕ) (n at : ℕ) : Type 0 where
-  pub small : n ≤ at
-  pub further : last-from n (drop at v) ≡ last-long v
-
-pub none-counted : (v : List ℕ) → Counted v 0 0
+last-is : (v : List ℕ) → last-from 0 v ≡ last-long v
 unfolding last-long
-none-counted v = record { small = omega arith; further = last-with 0 v ∙ with-none (parts newline v .0) (parts newline v .1) }
+last-is v = last-with 0 v ∙ with-none (parts newline v .0) (parts newline v .1)
 
-module _ {v : List ℕ} {n at : ℕ} (c : Counted v n at) where
-  pub begin-again : {m : ℕ} → at < length v → getD v at 0 ≡ 10 → m ≡ 0 → Counted v m (at + 1)
+either : (t : Bool) {a b m : ℕ} → a ≡ m → b ≡ m → (if t then a else b) ≡ m
+either true p q = p
+either false p q = q
+
+-- what stands before n does not matter where the bytes from n on make the same of any number
+from-any : (n : ℕ) (v : List ℕ) {m : ℕ} → ((k : ℕ) → last-from k (drop n v) ≡ m) → (k : ℕ) → last-from k v ≡ m
+unfolding last-from
+from-any zero v h k = h k
+from-any (suc n) [] h k = h k
+from-any (suc n) (x ∷ s) h k = either (newline x) (from-any n s h 0) (from-any n s h (suc k))
+
+-- the loop stands at n, and there is no newline from n on
+pub record Unbroken (v : List ℕ) (n : ℕ) : Type 0 where
+  pub inside : n ≤ length v
+  pub counted : (k : ℕ) → last-from k (drop n v) ≡ k + (length v - n)
+
+pub none-seen : (v : List ℕ) → Unbroken v (length v)
+unfolding last-from
+none-seen v = record {
+  inside = omega arith;
+  counted = λ k. rw (drop-of-length-le v {i = length v} (omega arith)) (omega arith);
+}
+
+module _ {v : List ℕ} {n : ℕ} (u : Unbroken v n) (h : 0 < n) where
+  one-back : drop (n - 1) v ≡ getD v (n - 1) 0 ∷ drop n v
+  one-back =
+      let e : suc (n - 1) ≡ n = omega arith in
+      rw e at (drop-cons v (n - 1) 0 (omega (arith, u .inside)))
+
+  pub newline-seen : getD v (n - 1) 0 ≡ 10 → length v - n ≡ last-long v
   unfolding last-from newline
-  begin-again h e z = rw (z, add-one) record {
-    small = omega arith;
-    further = rw (drop-cons v at 0 h, eq-eqb (getD v at 0) 10 e) at (c .further);
+  newline-seen e = sym (from-any (n - 1) v (λ k. rw (one-back, eq-eqb (getD v (n - 1) 0) 10 e) (omega (arith, u .counted 0))) 0) ∙ last-is v
+
+  pub other-seen : (getD v (n - 1) 0 ≡ 10 → ⊥) → Unbroken v (n - 1)
+  unfolding last-from newline
+  other-seen e = record {
+    inside = omega (arith, u .inside);
+    counted = λ k. rw (one-back, ne-eqb (getD v (n - 1) 0) 10 e) (omega (arith, u .counted (suc k), u .inside));
   }
 
-  pub one-more : {m : ℕ} → at < length v → (getD v at 0 ≡ 10 → ⊥) → m ≡ n + 1 → Counted v m (at + 1)
-  unfolding last-from newline
-  one-more h e z = rw (z, add-one, add-one) record {
-    small = omega (arith, c .small);
-    further = rw (drop-cons v at 0 h, ne-eqb (getD v at 0) 10 e) at (c .further);
-  }
-
-  pub all-counted : length v ≤ at → n ≡ last-long v
-  unfolding last-from
-  all-counted h = rw (drop-of-length-le v h) at (c .further)
+pub all-seen : {v : List ℕ} {n : ℕ} → Unbroken v n → n ≤ 0 → length v ≡ last-long v
+all-seen {v} {n} u h =
+    let z : n ≡ 0 = omega arith in
+    omega (arith, rw z at (u .counted 0), last-is v)
 
 -- ---- a text
 

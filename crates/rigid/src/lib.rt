@@ -34,20 +34,19 @@ fn columns(n: usize, w: u16) -> u16
     all as u16
 }
 
-// How many bytes follow the last newline.
+// How many bytes follow the last newline: looked for from the end, where it mostly is near.
 fn after_last(v: &[u8]) -> usize
     ensures { λ r. ⌜ r ≡ last-long (now (v .entry)) ⌝ }
 {
-    let mut n = 0;
-    let mut at = 0;
-    while at < v.len() {
-        n += 1;
+    let mut n = v.len();
+    while 0 < n {
+        let at = n - 1;
         if v[at] == b'\n' {
-            n = 0;
+            return v.len() - n;
         }
-        at += 1;
+        n = at;
     }
-    n
+    v.len()
 }
 
 // A text whose bytes are w tenths of a column wide.

@@ -1,2 +1,3 @@
--- The loop over a text's first line.
+-- The loops over a text's first line.
 pub mod Passing
+pub mod Chunks

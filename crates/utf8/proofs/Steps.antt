@@ -13,7 +13,7 @@ use Rattle.rules.specs.Utf8.{_to_, following}
 use Rattle.utf8.specs.Owing.{ranges, after}
 
 -- a byte in a range, below it and above it
-inside : (lo hi b : ℕ) → lo ≤ b → b ≤ hi → within lo hi b ≡ true
+pub inside : (lo hi b : ℕ) → lo ≤ b → b ≤ hi → within lo hi b ≡ true
 inside lo hi b l h = simp (le-leb lo b l, le-leb b hi h)
 
 below : (lo hi b : ℕ) → b < lo → within lo hi b ≡ false

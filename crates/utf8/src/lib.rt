@@ -4,6 +4,7 @@ ghost use Rattle.rules.specs.Bytes.{has};
 ghost use Rattle.rules.specs.Utf8.{following};
 ghost use Rattle.utf8.specs.Owing.{wanted, wanted-by, after};
 ghost use Rattle.utf8.specs.Answer.{utf8-answer};
+ghost use Rattle.utf8.specs.AllBits.{all-bits};
 
 pub enum Utf8 {
     Sound,
@@ -63,8 +64,21 @@ fn step(o: Owed, b: u8) -> Begun
     wants(o.more - 1, 0x80, 0xbf)
 }
 
-// Whether the bytes are UTF-8.
-pub fn check_utf8(s: &[u8]) -> Utf8
+// The bits that some byte has: if they are below 128, every byte is ASCII. No exit before the end, so that the machine takes many bytes at once.
+fn all_bits(s: &[u8]) -> u8
+    ensures { λ r. ⌜ r ≡ all-bits (now (s .entry)) ⌝ }
+{
+    let mut all = 0;
+    let mut i = 0;
+    while i < s.len() {
+        all = all | s[i];
+        i += 1;
+    }
+    all
+}
+
+// Whether the bytes are UTF-8, one after the other.
+fn check_each(s: &[u8]) -> Utf8
     ensures { λ r. ⌜ r ≡ utf8-answer (now (s .entry)) ⌝ }
 {
     let mut owed = Owed {
@@ -85,6 +99,16 @@ pub fn check_utf8(s: &[u8]) -> Utf8
         return Utf8::Sound;
     }
     Utf8::Broken
+}
+
+// Whether the bytes are UTF-8. Most texts are ASCII, which is seen faster.
+pub fn check_utf8(s: &[u8]) -> Utf8
+    ensures { λ r. ⌜ r ≡ utf8-answer (now (s .entry)) ⌝ }
+{
+    if all_bits(s) < 128 {
+        return Utf8::Sound;
+    }
+    check_each(s)
 }
 
 // Whether a double quote is among the bytes.

@@ -1,30 +1,31 @@
--- `rigid::after_last` meets its contract. The loop's invariant: so many bytes since the last newline, and what the rest makes of them.
-use mathlib.Core.Logic.{⊎-elim}
-use Prim.Native.Nat.{_-_}
-use native.Mathlib.Omega.{arith}
-use lib.ListN.{length}
+-- `rigid::after_last` meets its contract. The loop's invariant: there is no newline from n on.
 use borrow.Author.Needs.{needs}
-use Rattle.rigid.proofs.Lines.{Counted, none-counted, begin-again, one-more, all-counted}
+use Rattle.rigid.proofs.Lines.{Unbroken, none-seen, newline-seen, other-seen, all-seen}
 use Rattle.rigid.proofs.after_last.Statement.{statement}
 use Rattle.rigid.proofs.after_last.Tie as tie
 
 abbrev Inv-loop : tie.InvT-loop
-Inv-loop v n₀ at₀ n at = Counted v n at
+Inv-loop v n₀ n = Unbroken v n
 
 abbrev μ-loop : tie.MeasureT-loop
-μ-loop v n₀ at₀ n at = length v - at
+μ-loop v n₀ n = n
 
 loop-holds : tie.Need-loop-holds Inv-loop μ-loop
-loop-holds c = none-counted _
+loop-holds c = none-seen _
 
-add-n : tie.Need-add-n Inv-loop μ-loop
-add-n c = record { fits = omega (arith, c .before .loop .inv .small) }
+sub-at : tie.Need-sub-at Inv-loop μ-loop
+sub-at c = search needs
 
 shared-slice-read-if1 : tie.Need-shared-slice-read-if1 Inv-loop μ-loop
 shared-slice-read-if1 c = search needs
 
-add-at : tie.Need-add-at Inv-loop μ-loop
-add-at c = search needs
+sub-result : tie.Need-sub-result Inv-loop μ-loop
+sub-result c = search needs
+
+returns : tie.Need-returns Inv-loop μ-loop
+returns c =
+    let turn = c .before .before in
+    newline-seen (turn .before .loop .inv) (turn .loop-test .taken) (c .if1 .taken)
 
 loop-less : tie.Need-loop-less Inv-loop μ-loop
 loop-less c = search needs
@@ -32,11 +33,10 @@ loop-less c = search needs
 loop-again : tie.Need-loop-again Inv-loop μ-loop
 loop-again c =
     let turn = c .before .before in
-    ⊎-elim (λ h. begin-again (turn .before .loop .inv) (turn .loop-test .taken) (h .0 .taken) (h .1))
-    (λ h. one-more (turn .before .loop .inv) (turn .loop-test .taken) (h .0 .left) (h .1)) (c .if1 .came)
+    other-seen (turn .before .loop .inv) (turn .loop-test .taken) (c .if1 .left)
 
-returns : tie.Need-returns Inv-loop μ-loop
-returns c = all-counted (c .before .loop .inv) (c .loop-test .left)
+returns-2 : tie.Need-returns-2 Inv-loop μ-loop
+returns-2 c = all-seen (c .before .loop .inv) (c .loop-test .left)
 
 pub after-last-spec : {M : Type 1} → statement M
 after-last-spec =
@@ -45,9 +45,10 @@ after-last-spec =
     Inv-loop
     μ-loop
     loop-holds
-    add-n
+    sub-at
     shared-slice-read-if1
-    add-at
+    sub-result
+    returns
     loop-less
     loop-again
-    returns)
+    returns-2)

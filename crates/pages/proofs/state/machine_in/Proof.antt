@@ -1,0 +1,18 @@
+-- `pages::state::machine_in` meets its contract: the parts of the number.
+use native.Mathlib.Omega.{arith}
+use Rattle.pages.proofs.StateLaws.{machine-said}
+use borrow.Author.Needs.{needs}
+use Rattle.pages.proofs.state.machine_in.Statement.{statement}
+use Rattle.pages.proofs.state.machine_in.Tie as tie
+
+line-numbered-requires : tie.Need-line-numbered-requires
+line-numbered-requires c κs = search needs
+
+waiting-numbered-requires : tie.Need-waiting-numbered-requires
+waiting-numbered-requires c κs = search needs
+
+returns : tie.Need-returns
+returns c = machine-said _ _ _ (c .before .line-numbered .ensures) (c .waiting-numbered .ensures) (omega arith)
+
+pub machine-in-spec : {M : Type 1} → statement M
+machine-in-spec = tie.close (tie.spec line-numbered-requires waiting-numbered-requires returns)

@@ -1,0 +1,36 @@
+-- What a pen's number says: the line machine and the form.
+use mathlib.Core.Option.{Option, none, some}
+use Prim.Native.Nat.{ℕ, zero, suc, _+_, _/_, _%_, _^_, _<_}
+use Rattle.rules.specs.Lines as rules
+use Rattle.pages.specs.declared.state.Form as F
+
+unfoldable pub line-numbered : ℕ → rules.Line
+line-numbered zero = rules.empty
+line-numbered (suc zero) = rules.has-text
+line-numbered (suc (suc k)) = rules.indented-by k
+
+unfoldable pub waiting-numbered : ℕ → Option rules.Break
+waiting-numbered zero = none
+waiting-numbered (suc zero) = some rules.a-space
+waiting-numbered (suc (suc k)) = some rules.a-newline
+
+unfoldable pub form-numbered : ℕ → F.Form
+form-numbered zero = F.the-variants.Plain
+form-numbered (suc k) = F.the-variants.Html
+
+-- the indent below 2 ^ 16, then the form, the waiting break, the line
+unfoldable pub machine-in : ℕ → rules.Machine
+machine-in n = record { level = n % 65536; line = line-numbered (n / 524288); waiting = waiting-numbered ((n / 131072) % 4) }
+
+unfoldable pub form-in : ℕ → F.Form
+form-in n = form-numbered ((n / 65536) % 2)
+
+-- the levels of a line that has no text yet
+unfoldable pub levels-of : rules.Line → ℕ
+levels-of rules.empty = 0
+levels-of (rules.indented-by k) = k
+levels-of rules.has-text = 0
+
+-- a line that a number has room for
+pub record Fits (l : rules.Line) : Type 0 where
+  pub fits : levels-of l + 2 < 2 ^ 45

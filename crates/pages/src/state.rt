@@ -1,0 +1,110 @@
+// A pen's state in one number: the line machine and the form. A pen is handed on at every node, and two numbers are handed on faster than a
+// struct with structs in it.
+use lines::LineState;
+use lines::Machine;
+use lines::Waiting;
+ghost use mathlib.Core.Path.{_≡_};
+ghost use Prim.Native.Nat.{_<_, _^_};
+ghost use Rattle.lines.specs.Said.{line-of, waiting-of, machine-of};
+ghost use Rattle.pages.specs.States.{line-numbered, waiting-numbered, form-numbered, machine-in, form-in, Fits};
+
+// How items are shown: texts alone, or texts escaped and marks as tags.
+pub enum Form {
+    Plain,
+    Html,
+}
+
+// The weights of the parts: below the first stands the indent, above the last the line.
+const FORM: usize = 0x1_0000;
+
+const WAITING: usize = 0x2_0000;
+
+const LINE: usize = 0x8_0000;
+
+fn line_numbered(n: usize) -> LineState
+    ensures { λ r. ⌜ line-of r ≡ line-numbered n ⌝ }
+{
+    if n == 0 {
+        return LineState::Empty;
+    }
+    if n == 1 {
+        return LineState::HasText;
+    }
+    LineState::Indented(n - 2)
+}
+
+fn waiting_numbered(n: usize) -> Waiting
+    ensures { λ r. ⌜ waiting-of r ≡ waiting-numbered n ⌝ }
+{
+    if n == 0 {
+        return Waiting::Nothing;
+    }
+    if n == 1 {
+        return Waiting::Space;
+    }
+    Waiting::NewLine
+}
+
+// The machine of a state.
+pub fn machine_in(state: usize) -> Machine
+    ensures { λ r. ⌜ (machine-of r ≡ machine-in state) × Fits (line-of (r .line)) ⌝ }
+{
+    Machine {
+        indent: state % FORM,
+        line: line_numbered(state / LINE),
+        waiting: waiting_numbered(state / WAITING % 4),
+    }
+}
+
+// The form of a state.
+pub fn form_in(state: usize) -> Form
+    ensures { λ r. ⌜ r ≡ form-in state ⌝ }
+{
+    if state / FORM % 2 == 0 {
+        return Form::Plain;
+    }
+    Form::Html
+}
+
+fn line_number(line: LineState) -> usize
+    requires { ⌜ Fits (line-of line) ⌝ }
+    ensures { λ r. ⌜ (line-numbered r ≡ line-of line) × (r < 2 ^ 45) ⌝ }
+{
+    match line {
+        LineState::Empty => 0,
+        LineState::Indented(k) => k + 2,
+        LineState::HasText => 1,
+    }
+}
+
+fn waiting_number(waiting: Waiting) -> usize
+    ensures { λ r. ⌜ (waiting-numbered r ≡ waiting-of waiting) × (r < 3) ⌝ }
+{
+    match waiting {
+        Waiting::Nothing => 0,
+        Waiting::Space => 1,
+        Waiting::NewLine => 2,
+    }
+}
+
+fn form_number(form: Form) -> usize
+    ensures { λ r. ⌜ (form-numbered r ≡ form) × (r < 2) ⌝ }
+{
+    match form {
+        Form::Plain => 0,
+        Form::Html => 1,
+    }
+}
+
+// The state of a machine and a form.
+pub fn state_of(m: Machine, form: Form) -> usize
+    requires { ⌜ (m .indent < 2 ^ 16) × Fits (line-of (m .line)) ⌝ }
+    ensures { λ r. ⌜ (machine-in r ≡ machine-of m) × (form-in r ≡ form) ⌝ }
+{
+    let line = m.line;
+    let waiting = m.waiting;
+    line_number(line) * LINE
+        + waiting_number(waiting) * WAITING
+        + form_number(form) * FORM
+        + m.indent
+}

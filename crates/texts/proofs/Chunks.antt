@@ -1,0 +1,78 @@
+-- A chunk of bytes: whether it has a newline, and how it is passed.
+use mathlib.Core.Path.{_≡_, refl, sym, _∙_}
+use mathlib.Core.List.{List, [], _∷_}
+use mathlib.Core.Bool.{Bool, true, false, _||_, or-true, or-false}
+use Prim.Native.Nat.{ℕ, zero, suc, _+_, _-_, _≤_, _<_}
+use native.Mathlib.Omega.{arith}
+use native.Mathlib.Numerals.{add-one}
+use lib.Dec.{eqb}
+use lib.ListN.{length, take, drop, getD, drop-of-length-le, length-drop}
+use lib.Seq.{drop-cons, drop-drop}
+use borrow.Author.Tests.{eq-eqb, ne-eqb}
+use Rattle.rules.specs.Bytes.{has}
+use Rattle.texts.specs.FirstLine.{first-long, Passed}
+use Rattle.texts.proofs.Passing.{first-other}
+
+-- ---- the bytes of a chunk
+
+-- the loop stands at i, and a newline was found before exactly if b
+pub record Looked (v : List ℕ) (i : ℕ) (b : Bool) : Type 0 where
+  pub inside : i ≤ length v
+  pub further : (b || has 10 (drop i v)) ≡ has 10 v
+
+pub none-looked : (v : List ℕ) → Looked v 0 false
+none-looked v = record { inside = omega arith; further = refl }
+
+module _ {v : List ℕ} {i : ℕ} {b : Bool} (l : Looked v i b) where
+  pub there : {r : Bool} → i < length v → getD v i 0 ≡ 10 → r ≡ true → Looked v (i + 1) r
+  unfolding has
+  there h e q = rw (q, add-one) record {
+    inside = h;
+    further = rw (drop-cons v i 0 h, eq-eqb 10 (getD v i 0) (sym e), or-true b) at (l .further);
+  }
+
+  pub not-there : {r : Bool} → i < length v → (getD v i 0 ≡ 10 → ⊥) → r ≡ b → Looked v (i + 1) r
+  unfolding has
+  not-there h e q = rw (q, add-one) record {
+    inside = h;
+    further = rw (drop-cons v i 0 h, ne-eqb 10 (getD v i 0) (λ q. e (sym q))) at (l .further);
+  }
+
+  pub all-looked : length v ≤ i → b ≡ has 10 v
+  unfolding has
+  all-looked h = rw (drop-of-length-le v h, or-false b) at (l .further)
+
+-- ---- chunk by chunk
+
+pub none-passed : (v : List ℕ) → Passed v 0
+none-passed v = record { inside = omega arith; further = omega arith }
+
+not-first : (n m : ℕ) (b : Bool) → (eqb n m || b) ≡ false → m ≡ n → ⊥
+not-first n m b e q =
+    let z : true ≡ false = rw (eq-eqb n m (sym q)) at e in
+    let o : _≡_ {A = ℕ} 0 1 = cc in
+    omega arith
+
+not-later : (a b : Bool) → (a || b) ≡ false → b ≡ false
+not-later true b e = let o : _≡_ {A = ℕ} 0 1 = cc in absurd (omega arith)
+not-later false b e = e
+
+-- n bytes without a newline
+over : (n : ℕ) (s : List ℕ) → n ≤ length s → has 10 (take n s) ≡ false → first-long s ≡ n + first-long (drop n s)
+unfolding has
+over zero s l e = omega arith
+over (suc n) [] l e = absurd (omega arith)
+over (suc n) (x ∷ s) l e =
+    let one : first-long (x ∷ s) ≡ suc (first-long s) = first-other x s (not-first 10 x (has 10 (take n s)) e) in
+    omega (arith, over n s (omega arith) (not-later (eqb 10 x) (has 10 (take n s)) e))
+
+pub chunk-passed : {v : List ℕ} {at : ℕ} → Passed v at → (n : ℕ) → n ≤ length v - at → {r : Bool}
+    → r ≡ has 10 (take (at + n - at) (drop at v)) → r ≡ false → Passed v (at + n)
+chunk-passed {v} {at} p n l e f =
+    let k : at + n - at ≡ n = omega arith in
+    let o : first-long (drop at v) ≡ n + first-long (drop n (drop at v)) =
+    over n (drop at v) (omega (arith, length-drop at v)) (rw k at (sym e ∙ f)) in
+    record {
+      inside = omega (arith, p .inside);
+      further = rw (← drop-drop n at v) (omega (arith, p .further));
+    }

@@ -1,0 +1,47 @@
+-- `utf8::all_bits` meets its contract. The loop's invariant: the bits so far, with those of the bytes from i on, are all.
+use mathlib.Core.Path.{_≡_, refl}
+use Prim.Native.Nat.{_≤_, _-_}
+use lib.ListN.{length, drop}
+use borrow.Author.Needs.{needs}
+use Rattle.utf8.specs.AllBits.{bits-with, all-bits}
+use Rattle.utf8.proofs.Ascii.{one-or, all-or}
+use Rattle.utf8.proofs.all_bits.Statement.{statement}
+use Rattle.utf8.proofs.all_bits.Tie as tie
+
+abbrev Inv-loop : tie.InvT-loop
+Inv-loop s all₀ i₀ all i = (i ≤ length s) × (bits-with all (drop i s) ≡ all-bits s)
+
+abbrev μ-loop : tie.MeasureT-loop
+μ-loop s all₀ i₀ all i = length s - i
+
+loop-holds : tie.Need-loop-holds Inv-loop μ-loop
+unfolding all-bits
+loop-holds c = (search needs, refl)
+
+shared-slice-read-all : tie.Need-shared-slice-read-all Inv-loop μ-loop
+shared-slice-read-all c = search needs
+
+add-i : tie.Need-add-i Inv-loop μ-loop
+add-i c = search needs
+
+loop-less : tie.Need-loop-less Inv-loop μ-loop
+loop-less c = search needs
+
+loop-again : tie.Need-loop-again Inv-loop μ-loop
+loop-again c = (search needs, one-or _ _ _ (c .before .before .loop .inv .1) (c .before .loop-test .taken))
+
+returns : tie.Need-returns Inv-loop μ-loop
+returns c = all-or _ _ _ (c .before .loop .inv .1) (c .loop-test .left)
+
+pub all-bits-spec : {M : Type 1} → statement M
+all-bits-spec =
+    tie.close
+    (tie.spec
+    Inv-loop
+    μ-loop
+    loop-holds
+    shared-slice-read-all
+    add-i
+    loop-less
+    loop-again
+    returns)
