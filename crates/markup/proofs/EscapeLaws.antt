@@ -38,17 +38,20 @@ module _ {page page′ : List ℕ} {at r : ℕ} (b : ℕ) where
 abbrev pub escaped-text : List ℕ → List ℕ
 escaped-text s = fill itself (items-html escape (map (λ y. char (copied y)) s))
 
-no-bytes : escaped-text [] ≡ []
+pub no-bytes : escaped-text [] ≡ []
 unfolding items-html fill
 no-bytes = refl
 
-first-byte : (a : ℕ) (s : List ℕ) → escaped-text (a ∷ s) ≡ escaped-byte a ++ escaped-text s
+pub first-byte : (a : ℕ) (s : List ℕ) → escaped-text (a ∷ s) ≡ escaped-byte a ++ escaped-text s
 unfolding items-html item-html
 first-byte a s = fill-append (escaped (escape a) a) (items-html escape (map (λ y. char (copied y)) s))
 
+pub escaped-append : (s u : List ℕ) → escaped-text (s ++ u) ≡ escaped-text s ++ escaped-text u
+escaped-append [] u = rw no-bytes
+escaped-append (a ∷ s) u = first-byte a (s ++ u) ∙ rw (escaped-append s u, first-byte a s, append-assoc)
+
 last-byte : (s : List ℕ) (b : ℕ) → escaped-text (s ++ (b ∷ [])) ≡ escaped-text s ++ escaped-byte b
-last-byte [] b = first-byte b [] ∙ rw no-bytes (append-nil (escaped-byte b))
-last-byte (a ∷ s) b = first-byte a (s ++ (b ∷ [])) ∙ rw (last-byte s b, first-byte a s, append-assoc)
+last-byte s b = escaped-append s (b ∷ []) ∙ rw (first-byte b [], no-bytes, append-nil)
 
 module _ {page : List ℕ} {at : ℕ} where
   pub none-yet : Written page at (escaped-text []) page at

@@ -8,3 +8,4 @@ pub mod CssLaws
 pub mod TagLaws
 pub mod AnchorLaws
 pub mod EscapeLaws
+pub mod RunLaws

@@ -23,19 +23,19 @@ moved-far n h = omega arith
 
 -- ---- pages
 
-with-append : (page : List ℕ) (at : ℕ) (xs ys : List ℕ) → with-text page at (xs ++ ys) ≡ with-text (with-text page at xs) (moved at (length xs)) ys
+pub with-append : (page : List ℕ) (at : ℕ) (xs ys : List ℕ) → with-text page at (xs ++ ys) ≡ with-text (with-text page at xs) (moved at (length xs)) ys
 unfolding with-text
 with-append page at [] ys = rw moved-none
 with-append page at (x ∷ xs) ys =
     let e : moved (moved at 1) (length xs) ≡ moved at (suc (length xs)) = moved-then at 1 (length xs) ∙ ap (moved at) (omega arith) in
     rw (← e) (with-append (set page at x) (moved at 1) xs ys)
 
-with-length : (page : List ℕ) (at : ℕ) (text : List ℕ) → length (with-text page at text) ≡ length page
+pub with-length : (page : List ℕ) (at : ℕ) (text : List ℕ) → length (with-text page at text) ≡ length page
 unfolding with-text
 with-length page at [] = refl
 with-length page at (b ∷ text) = with-length (set page at b) (moved at 1) text ∙ length-set page at b
 
-with-sets : (page : List ℕ) (at : ℕ) (text : List ℕ) → at + length text ≤ last → with-text page at text ≡ sets page at text
+pub with-sets : (page : List ℕ) (at : ℕ) (text : List ℕ) → at + length text ≤ last → with-text page at text ≡ sets page at text
 unfolding with-text moved
 with-sets page at [] h = refl
 with-sets page at (b ∷ text) h =

@@ -1,57 +1,92 @@
--- `writing::put_bytes` meets its contract. The loop's invariant: the first i bytes of the slice are written.
-use mathlib.Core.Path.{refl}
-use Prim.Native.Nat.{_≤_, _-_}
-use lib.ListN.{length, take}
+-- `writing::put_bytes` meets its contract: what fits is copied, and the position moves by the whole length.
+use mathlib.Core.Path.{refl, sym}
+use mathlib.Core.Logic.{⊎-elim}
+use native.Mathlib.Omega.{arith}
+use lib.ListN.{length-take, length-drop}
+use lib.Seq.{length-take-le}
 use borrow.Author.Needs.{needs}
-use Rattle.writing.specs.Written.{Written}
-use Rattle.writing.specs.Laws.{nothing, kept}
-use Rattle.writing.proofs.Turns.{more, all}
+use Rattle.writing.specs.Laws.{kept}
+use Rattle.writing.proofs.Parts.{all-fits, some-fits, past-the-end}
 use Rattle.writing.proofs.put_bytes.Statement.{statement}
 use Rattle.writing.proofs.put_bytes.Tie as tie
 
-abbrev Inv-loop : tie.InvT-loop
-Inv-loop page₀ at s next₀ i₀ page next i = (i ≤ length s) × Written page₀ at (take i s) page next
+sub-room : tie.Need-sub-room
+sub-room c = search needs
 
-abbrev μ-loop : tie.MeasureT-loop
-μ-loop page₀ at s next₀ i₀ page next i = length s - i
+add-copy : tie.Need-add-copy
+add-copy c = search needs
 
-loop-holds : tie.Need-loop-holds Inv-loop μ-loop
-loop-holds c = (search needs, nothing)
+sub-copy : tie.Need-sub-copy
+sub-copy c = search needs
 
-shared-slice-read-put : tie.Need-shared-slice-read-put Inv-loop μ-loop
-shared-slice-read-put c = search needs
+part-copy-start : tie.Need-part-copy-start
+part-copy-start c = search needs
 
-put-requires : tie.Need-put-requires Inv-loop μ-loop
-put-requires c κs = search needs
+part-copy-end : tie.Need-part-copy-end
+part-copy-end c = search needs
 
-add-i : tie.Need-add-i Inv-loop μ-loop
-add-i c = search needs
+copy-requires : tie.Need-copy-requires
+copy-requires c κs = search needs
 
-loop-less : tie.Need-loop-less Inv-loop μ-loop
-loop-less c = search needs
+add-result : tie.Need-add-result
+add-result c = search needs
 
-loop-again : tie.Need-loop-again Inv-loop μ-loop
-loop-again c =
-    let turn = c .before .before .before .before .before in
-    (search needs, more _ _ refl (turn .before .loop .inv .1) (turn .loop-test .taken) refl (c .before .before .put .ensures))
+same-length : tie.Need-same-length
+same-length c = search needs
 
-same-length : tie.Need-same-length Inv-loop μ-loop
-same-length c = kept (c .before .loop .inv .1)
+returns : tie.Need-returns
+returns c =
+    let put = c .before .before in
+    let room = put .before .before in
+    all-fits _ _ _ refl (omega arith) (room .before .if1 .taken) (room .if2 .taken) (put .copy .ensures)
 
-returns : tie.Need-returns Inv-loop μ-loop
-returns c = all _ _ refl (c .before .loop .inv .1) (c .loop-test .left)
+sub-copy-2 : tie.Need-sub-copy-2
+sub-copy-2 c = search needs
+
+part-copy-start-2 : tie.Need-part-copy-start-2
+part-copy-start-2 c = search needs
+
+part-copy-end-2 : tie.Need-part-copy-end-2
+part-copy-end-2 c = search needs
+
+slice-aggregate-copy : tie.Need-slice-aggregate-copy
+slice-aggregate-copy c = sym (length-take-le _ _ (omega arith))
+
+copy-requires-2 : tie.Need-copy-requires-2
+copy-requires-2 c κs = simp (length-take, length-drop) (omega arith)
+
+moved-on-requires : tie.Need-moved-on-requires
+moved-on-requires c κs = search needs
+
+returns-2 : tie.Need-returns-2
+returns-2 c =
+    let e = c .moved-on .ensures in
+    ⊎-elim
+    (λ w. rw (w .7) (some-fits _ _ _ refl (omega arith) (w .0 .taken) (w .1 .left) e (w .4 .ensures)))
+    (λ w. rw (w .1) (past-the-end _ _ _ refl e (w .0 .left)))
+    (c .before .if1 .came)
+
+same-length-2 : tie.Need-same-length-2
+same-length-2 c = kept (returns-2 c)
 
 pub put-bytes-spec : {M : Type 1} → statement M
 put-bytes-spec =
     tie.close
     (tie.spec
-    Inv-loop
-    μ-loop
-    loop-holds
-    shared-slice-read-put
-    put-requires
-    add-i
-    loop-less
-    loop-again
+    sub-room
+    add-copy
+    sub-copy
+    part-copy-start
+    part-copy-end
+    copy-requires
+    add-result
     same-length
-    returns)
+    returns
+    sub-copy-2
+    part-copy-start-2
+    part-copy-end-2
+    slice-aggregate-copy
+    copy-requires-2
+    moved-on-requires
+    same-length-2
+    returns-2)

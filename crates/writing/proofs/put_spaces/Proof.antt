@@ -1,53 +1,86 @@
--- `writing::put_spaces` meets its contract. The loop's invariant: i of the n spaces are written.
-use Prim.Native.Nat.{_≤_, _-_}
-use lib.ListN.{take, replicate, length-replicate, getD-replicate}
+-- `writing::put_spaces` meets its contract: the spaces that fit are written, and the position moves by them all.
+use mathlib.Core.Logic.{⊎-elim}
+use native.Mathlib.Omega.{arith}
+use lib.ListN.{length-replicate}
 use borrow.Author.Needs.{needs}
-use Rattle.writing.specs.Written.{Written}
-use Rattle.writing.specs.Laws.{nothing, kept}
-use Rattle.writing.proofs.Turns.{more, all}
+use Rattle.writing.specs.Laws.{kept}
+use Rattle.writing.proofs.Parts.{all-spaces-fit, some-spaces-fit, past-the-end}
 use Rattle.writing.proofs.put_spaces.Statement.{statement}
 use Rattle.writing.proofs.put_spaces.Tie as tie
 
-abbrev Inv-loop : tie.InvT-loop
-Inv-loop page₀ at n next₀ i₀ page next i = (i ≤ n) × Written page₀ at (take i (replicate n 32)) page next
+sub-if2 : tie.Need-sub-if2
+sub-if2 c = search needs
 
-abbrev μ-loop : tie.MeasureT-loop
-μ-loop page₀ at n next₀ i₀ page next i = n - i
+add-blank : tie.Need-add-blank
+add-blank c = search needs
 
-loop-holds : tie.Need-loop-holds Inv-loop μ-loop
-loop-holds c = (search needs, nothing)
+sub-blank : tie.Need-sub-blank
+sub-blank c = search needs
 
-put-requires : tie.Need-put-requires Inv-loop μ-loop
-put-requires c κs = search needs
+part-blank-start : tie.Need-part-blank-start
+part-blank-start c = search needs
 
-add-i : tie.Need-add-i Inv-loop μ-loop
-add-i c = search needs
+part-blank-end : tie.Need-part-blank-end
+part-blank-end c = search needs
 
-loop-less : tie.Need-loop-less Inv-loop μ-loop
-loop-less c = search needs
+blank-requires : tie.Need-blank-requires
+blank-requires c κs = search needs
 
-loop-again : tie.Need-loop-again Inv-loop μ-loop
-loop-again c =
-    let turn = c .before .before .before .before in
-    let here = turn .loop-test .taken in
-    (search needs, more _ _ (length-replicate _ _) (turn .before .loop .inv .1) here (getD-replicate _ _ _ _ here) (c .before .before .put .ensures))
+add-result : tie.Need-add-result
+add-result c = search needs
 
-same-length : tie.Need-same-length Inv-loop μ-loop
-same-length c = kept (c .before .loop .inv .1)
+same-length : tie.Need-same-length
+same-length c = search needs
 
-returns : tie.Need-returns Inv-loop μ-loop
-returns c = all _ _ (length-replicate _ _) (c .before .loop .inv .1) (c .loop-test .left)
+returns : tie.Need-returns
+returns c =
+    let put = c .before .before in
+    let room = put .before .before in
+    all-spaces-fit _ _ _ _ (omega arith) (room .before .if1 .taken) (room .if2 .taken) (put .blank .ensures)
+
+sub-blank-2 : tie.Need-sub-blank-2
+sub-blank-2 c = search needs
+
+part-blank-start-2 : tie.Need-part-blank-start-2
+part-blank-start-2 c = search needs
+
+part-blank-end-2 : tie.Need-part-blank-end-2
+part-blank-end-2 c = search needs
+
+blank-requires-2 : tie.Need-blank-requires-2
+blank-requires-2 c κs = search needs
+
+moved-on-requires : tie.Need-moved-on-requires
+moved-on-requires c κs = search needs
+
+returns-2 : tie.Need-returns-2
+returns-2 c =
+    let e = c .moved-on .ensures in
+    ⊎-elim
+    (λ w. rw (w .6) (some-spaces-fit _ _ _ _ (omega arith) (w .0 .taken) (w .1 .left) e (w .3 .ensures)))
+    (λ w. rw (w .1) (past-the-end _ _ _ (length-replicate _ _) e (w .0 .left)))
+    (c .before .if1 .came)
+
+same-length-2 : tie.Need-same-length-2
+same-length-2 c = kept (returns-2 c)
 
 pub put-spaces-spec : {M : Type 1} → statement M
 put-spaces-spec =
     tie.close
     (tie.spec
-    Inv-loop
-    μ-loop
-    loop-holds
-    put-requires
-    add-i
-    loop-less
-    loop-again
+    sub-if2
+    add-blank
+    sub-blank
+    part-blank-start
+    part-blank-end
+    blank-requires
+    add-result
     same-length
-    returns)
+    returns
+    sub-blank-2
+    part-blank-start-2
+    part-blank-end-2
+    blank-requires-2
+    moved-on-requires
+    same-length-2
+    returns-2)
