@@ -20,9 +20,16 @@ fn place(size: i8) -> usize
     (size as i16 + 128) as usize
 }
 
+// A byte as a number.
+fn wide(b: u8) -> u64
+    ensures { λ r. ⌜ r ≡ b ⌝ }
+{
+    b as u64
+}
+
 // What a right table says of a size; from -11 downwards it is below zero. The table is a parameter so that the proof can speak of it: that the
 // constants are right is then one fact, which `em` owes.
-fn entry(wholes: &[u64; 246], places: &[u64; 246], size: i8) -> Decimal
+fn entry(wholes: &[u64; 246], places: &[u8; 246], size: i8) -> Decimal
     requires { ⌜ Right (now wholes) (now places) ⌝ }
     requires { ⌜ size ≤ℤ pos 117 ⌝ }
     ensures { λ r. ⌜ decimal-of r ≡ rules.em size ⌝ }
@@ -31,7 +38,7 @@ fn entry(wholes: &[u64; 246], places: &[u64; 246], size: i8) -> Decimal
     Decimal {
         negative: size < -10,
         whole: wholes[i],
-        places: places[i],
+        places: wide(places[i]),
     }
 }
 

@@ -1,5 +1,5 @@
 // The table of em sizes: the decimal of the size i - 128 is WHOLES[i] over 10 ^ PLACES[i], without its sign. Two arrays, for the prover runs
-// out of memory on one of 246 structs.
+// out of memory on one of 246 structs; the places in bytes, for the compiler writes a table anew where it is used.
 
 pub const WHOLES: [u64; 246] = [
     118,
@@ -250,7 +250,7 @@ pub const WHOLES: [u64; 246] = [
     12700000000000001,
 ];
 
-pub const PLACES: [u64; 246] = [
+pub const PLACES: [u8; 246] = [
     1,
     15,
     15,

@@ -15,18 +15,19 @@ mul-t6 c = offset-fits (c .before .fits .size) (c .before .pre .1) (c .place .en
 element-copy-out-t9 : tie.Need-element-copy-out-t9
 element-copy-out-t9 c = in-table (c .before .fits .size) (c .before .pre .1) (c .place .ensures)
 
-mul-t10 : tie.Need-mul-t10
-mul-t10 c = offset-fits (c .before .before .fits .size) (c .before .before .pre .1) (c .before .place .ensures)
+element-copy-out-wide : tie.Need-element-copy-out-wide
+element-copy-out-wide c = in-table (c .before .before .fits .size) (c .before .before .pre .1) (c .before .place .ensures)
 
-element-copy-out-t13 : tie.Need-element-copy-out-t13
-element-copy-out-t13 c = in-table (c .before .before .fits .size) (c .before .before .pre .1) (c .before .place .ensures)
+wide-requires : tie.Need-wide-requires
+wide-requires c κs = search needs
 
 returns : tie.Need-returns
 unfolding decimal-of decimal-at
 returns c =
-    read (c .before .before .before .fits .size) (c .before .before .before .pre .1) (c .before .before .place .ensures)
-    (c .before .before .before .pre .0)
+    rw (c .wide .ensures)
+    (read (c .before .before .before .before .fits .size) (c .before .before .before .before .pre .1) (c .before .before .before .place .ensures)
+    (c .before .before .before .before .pre .0))
 
 pub entry-spec : {M : Type 1} → statement M
 entry-spec =
-    tie.close (tie.spec place-requires mul-t6 element-copy-out-t9 mul-t10 element-copy-out-t13 returns)
+    tie.close (tie.spec place-requires mul-t6 element-copy-out-t9 element-copy-out-wide wide-requires returns)
