@@ -7,19 +7,16 @@ use lib.ListN.{set}
 use borrow.Author.Tests.{le-leb, lt-leb}
 use Rattle.rules.specs.Bytes.{cap}
 use Rattle.rules.specs.Layout.{Shape, Inline, Block, _⊕_, room}
-use Rattle.shapes.specs.declared.ApproxLayout as Code
-use Rattle.shapes.specs.declared.ApproxLayout.{ApproxLayout}
-use Rattle.shapes.specs.Shapes.{shape}
 use Rattle.parts.specs.Walk.{Is}
 use Rattle.layout.specs.LaidIn.{Laid, kept, decided}
 
-module _ (i b : ℕ) {so-far : ApproxLayout} {x y r : ℕ} where
-  pub room-inline : so-far ≡ Code.the-variants.Inline x y → r ≡ i - x → r ≡ room i b (shape so-far)
-  unfolding room shape
+module _ (i b : ℕ) {so-far : Shape} {x y r : ℕ} where
+  pub room-inline : so-far ≡ Inline x y → r ≡ i - x → r ≡ room i b so-far
+  unfolding room
   room-inline is e = rw is e
 
-  pub room-block : so-far ≡ Code.the-variants.BlockOrMixed x y → r ≡ b - y → r ≡ room i b (shape so-far)
-  unfolding room shape
+  pub room-block : so-far ≡ Block x y → r ≡ b - y → r ≡ room i b so-far
+  unfolding room
   room-block is e = rw is e
 
 pub kept-indented : (so-far : Shape) (n : ℕ) (s : List ℕ) {x l : Shape} {c : ℕ} → x ≡ Block 0 0 → l ≡ so-far ⊕ x → c ≡ cap (n + 1) → Is (kept false 0 so-far n s) (l, c) (set s 0 3)
@@ -29,18 +26,18 @@ kept-indented so-far n s {c = c} e f g = record {
   bytes = refl;
 }
 
-module _ (i : ℕ) (so-far : Shape) {own : ApproxLayout} {x y : ℕ} (n : ℕ) (s : List ℕ) where
+module _ (i : ℕ) (so-far : Shape) {own : Shape} {x y : ℕ} (n : ℕ) (s : List ℕ) where
   -- a Block does not fit
-  pub decided-block : own ≡ Code.the-variants.BlockOrMixed x y → {l : Laid} {s′ : List ℕ} → Is (kept false 0 so-far n s) l s′ → Is (decided i so-far (shape own) n s) l s′
-  unfolding decided shape
+  pub decided-block : own ≡ Block x y → {l : Laid} {s′ : List ℕ} → Is (kept false 0 so-far n s) l s′ → Is (decided i so-far own n s) l s′
+  unfolding decided
   decided-block is h = rw is h
 
   -- a candidate that does not fit
-  pub decided-over : own ≡ Code.the-variants.Inline x y → {c : ℕ} → c ≡ x - y → i < c → {l : Laid} {s′ : List ℕ} → Is (kept false 0 so-far n s) l s′ → Is (decided i so-far (shape own) n s) l s′
-  unfolding decided shape kept
+  pub decided-over : own ≡ Inline x y → {c : ℕ} → c ≡ x - y → i < c → {l : Laid} {s′ : List ℕ} → Is (kept false 0 so-far n s) l s′ → Is (decided i so-far own n s) l s′
+  unfolding decided kept
   decided-over is e o h = rw (is, ← e, lt-leb _ i o) (record { value = h .value; bytes = h .bytes })
 
   -- one that does
-  pub decided-within : own ≡ Code.the-variants.Inline x y → {c : ℕ} → c ≡ x - y → c ≤ i → {l z : Shape} → z ≡ Inline c 0 → l ≡ so-far ⊕ z → Is (decided i so-far (shape own) n s) (l, n) s
-  unfolding decided shape kept
+  pub decided-within : own ≡ Inline x y → {c : ℕ} → c ≡ x - y → c ≤ i → {l z : Shape} → z ≡ Inline c 0 → l ≡ so-far ⊕ z → Is (decided i so-far own n s) (l, n) s
+  unfolding decided kept
   decided-within is {c} e o f g = rw (is, ← e, le-leb c i o) (record { value = ap (λ l. (l, n)) (g ∙ ap (λ z. so-far ⊕ z) f); bytes = refl })

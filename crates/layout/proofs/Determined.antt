@@ -1,11 +1,19 @@
--- No second answer satisfies the contracts of this crate.
+-- No second answer satisfies the contracts of this crate, with layouts below 2^33: from there on a number says what a smaller one says.
 use mathlib.Core.Path.{_≡_, ap}
+use Prim.Native.Nat.{_^_, _<_}
 use Rattle.shapes.proofs.Determined.{shape-unique}
 use Rattle.layout.specs.declared.choice.Laid as Code
-use Rattle.layout.specs.Said.{said}
+use Rattle.layout.specs.declared.stretch.Stretch.{Stretch}
+use Rattle.layout.specs.Said.{said, said-stretch}
 
-pub laid-unique : (l m : Code.Laid) → said l ≡ said m → l ≡ m
+pub laid-unique : (l m : Code.Laid) → l .layout < 2 ^ 33 → m .layout < 2 ^ 33 → said l ≡ said m → l ≡ m
 unfolding said
-laid-unique l m e =
-    let shapes : l .layout ≡ m .layout = shape-unique (l .layout) (m .layout) (ap (λ x. x .0) e) in
+laid-unique l m h g e =
+    let shapes : l .layout ≡ m .layout = shape-unique (l .layout) (m .layout) h g (ap (λ x. x .0) e) in
     λ i. record { layout = shapes i; changed = e i .1 }
+
+pub stretch-unique : (l m : Stretch) → l .layout < 2 ^ 33 → m .layout < 2 ^ 33 → said-stretch l ≡ said-stretch m → l ≡ m
+unfolding said-stretch
+stretch-unique l m h g e =
+    let shapes : l .layout ≡ m .layout = shape-unique (l .layout) (m .layout) h g (ap (λ x. x .0) e) in
+    λ i. record { layout = shapes i; stop = e i .1 .0; post = e i .1 .1 }

@@ -2,9 +2,12 @@
 use shapes::ApproxLayout;
 use shapes::append;
 use shapes::block_or_mixed;
+use shapes::first;
 use shapes::inline;
+use shapes::is_block;
 use shapes::saturating_add;
 use shapes::saturating_sub;
+use shapes::second;
 ghost use mathlib.Core.Path.{_≡_};
 ghost use mathlib.Core.Bool.{false};
 ghost use Prim.Native.Nat.{_<_, max};
@@ -27,12 +30,14 @@ pub struct Laid {
     pub changed: u16,
 }
 
+// A layout with its count.
 pub fn laid_out(layout: ApproxLayout, changed: u16) -> Laid
     ensures { λ r. ⌜ said r ≡ (shape layout, changed) ⌝ }
 {
     Laid { layout, changed }
 }
 
+// The larger of two maxima.
 pub fn larger(a: u16, b: u16) -> u16
     ensures { λ r. ⌜ r ≡ max a b ⌝ }
 {
@@ -46,10 +51,10 @@ pub fn larger(a: u16, b: u16) -> u16
 pub fn room(widths: MaxWidths, so_far: ApproxLayout) -> u16
     ensures { λ r. ⌜ r ≡ rules.room (widths .inline) (widths .block) (shape «so_far») ⌝ }
 {
-    match so_far {
-        ApproxLayout::Inline { worst, excess } => saturating_sub(widths.inline, worst),
-        ApproxLayout::BlockOrMixed { pre, post } => saturating_sub(widths.block, post),
+    if is_block(so_far) {
+        return saturating_sub(widths.block, second(so_far));
     }
+    saturating_sub(widths.inline, first(so_far))
 }
 
 // The block does not fit: its tag becomes a 3.
@@ -69,12 +74,11 @@ pub fn decide(s: &mut [u8], inline_max: u16, so_far: ApproxLayout, l: Laid) -> L
     requires { ⌜ 0 < length (now s) ⌝ }
     ensures { λ r. ⌜ Is (decided «inline_max» (shape «so_far») (shape (l .layout)) (l .changed) (now (s .entry))) (said r) (now (s .exit)) ⌝ }
 {
-    let a = l.layout;
     let changed = l.changed;
-    let ApproxLayout::Inline { worst, excess } = a else {
+    if is_block(l.layout) {
         return indented(s, so_far, changed);
-    };
-    let candidate = saturating_sub(worst, excess);
+    }
+    let candidate = saturating_sub(first(l.layout), second(l.layout));
     if inline_max < candidate {
         return indented(s, so_far, changed);
     }

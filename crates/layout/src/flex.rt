@@ -5,10 +5,10 @@ use crate::choice::decide;
 use crate::choice::laid_out;
 use crate::choice::larger;
 use crate::choice::room;
-use crate::stretch::ahead;
-use crate::stretch::past;
+use crate::stretch::Stretch;
+use crate::stretch::behind;
+use crate::stretch::entered;
 use parts::field_end;
-use rigid::approx_rigid_layout;
 use shapes::ApproxLayout;
 use shapes::append;
 use shapes::block_or_mixed;
@@ -71,35 +71,31 @@ fn approx_fragments_layout(s: &mut [u8], widths: MaxWidths, left: usize) -> Laid
     while at < s.len() {
         let to = field_end(s, at);
         let l = approx_layout(&mut s[at..to], 3, widths, left);
-        let own = l.layout;
-        layout = append(layout, own);
+        layout = append(layout, l.layout);
         changed = saturating_add(changed, l.changed);
         at = to;
     }
     Laid { layout, changed }
 }
 
-// A fragment's nodes, from `from` on.
+// A fragment's nodes, from `from` on: at the first node of a stretch its rigid layouts are appended, then each node's flexible one.
 pub fn approx_layout(s: &mut [u8], from: usize, widths: MaxWidths, left: usize) -> Laid
     ensures { λ r. ⌜ Is (fragment-in left (widths .inline) (widths .block) from (now (s .entry))) (said r) (now (s .exit)) ⌝ }
 {
-    if s.len() < from {
-        return Laid {
-            layout: inline(0, 0),
-            changed: 0,
-        };
-    }
-    let mut layout = ahead(&s[from..], inline(0, 0));
+    let mut st = Stretch {
+        layout: inline(0, 0),
+        stop: from,
+        post: 0,
+    };
     let mut changed = 0;
     let mut node = from;
     while node < s.len() {
+        st = entered(st, s, node);
         let end = field_end(s, node);
-        let own = approx_rigid_layout(&s[node..end]);
-        let l = approx_flex_layout(&mut s[node..end], widths, layout, left);
-        let so_far = l.layout;
-        layout = past(own, so_far, &s[end..]);
+        let l = approx_flex_layout(&mut s[node..end], widths, st.layout, left);
+        st = behind(st, l.layout, end);
         changed = saturating_add(changed, l.changed);
         node = end;
     }
-    Laid { layout, changed }
+    laid_out(st.layout, changed)
 }

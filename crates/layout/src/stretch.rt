@@ -4,50 +4,73 @@ use rigid::approx_rigid_layout;
 use shapes::ApproxLayout;
 use shapes::append;
 use shapes::block_or_mixed;
+use shapes::first;
 use shapes::inline;
+use shapes::is_block;
+use shapes::second;
 ghost use mathlib.Core.Path.{_≡_};
-ghost use lib.ListN.{length};
-ghost use Rattle.rules.specs.Layout.{stretch};
 ghost use Rattle.shapes.specs.Shapes.{shape};
-ghost use Rattle.layout.specs.LaidIn.{ahead-in, past-in};
+ghost use Rattle.layout.specs.Said.{said-stretch};
+ghost use Rattle.layout.specs.LaidIn.{stretch-in, entered-in, behind-in};
 
-// A stretch ends with a block: what stands before it on its line belongs to the stretch.
-fn up_to(so_far: ApproxLayout, own: ApproxLayout) -> ApproxLayout
-    ensures { λ r. ⌜ shape r ≡ stretch (shape «so_far») (shape own) (shape «so_far») ⌝ }
-{
-    match own {
-        ApproxLayout::Inline { worst, excess } => so_far,
-        ApproxLayout::BlockOrMixed { pre, post } => append(so_far, inline(pre, 0)),
-    }
+// What is laid out so far; where the stretch's block ends, 0 without one; and what that block has on its last line.
+pub struct Stretch {
+    pub layout: ApproxLayout,
+    pub stop: usize,
+    pub post: u16,
 }
 
-// The rigid layouts of the nodes of s, up to the next block.
-pub fn ahead(s: &[u8], so_far: ApproxLayout) -> ApproxLayout
-    ensures { λ r. ⌜ shape r ≡ ahead-in (length (now (s .entry))) (shape «so_far») (now (s .entry)) ⌝ }
+// The rigid layouts of the nodes of s from `from` on, up to the next block: what stands before it on its line belongs to the stretch.
+fn ahead(s: &[u8], from: usize, so_far: ApproxLayout) -> Stretch
+    ensures { λ r. ⌜ said-stretch r ≡ stretch-in from (shape «so_far») (now (s .entry)) ⌝ }
 {
-    let mut a = so_far;
-    let mut at = 0;
+    let mut layout = so_far;
+    let mut at = from;
     while at < s.len() {
         let to = field_end(s, at);
         let own = approx_rigid_layout(&s[at..to]);
-        let ApproxLayout::Inline { worst, excess } = own else {
-            return up_to(a, own);
-        };
-        a = append(a, own);
+        if is_block(own) {
+            let pre = first(own);
+            return Stretch {
+                layout: append(layout, inline(pre, 0)),
+                stop: to,
+                post: second(own),
+            };
+        }
+        layout = append(layout, own);
         at = to;
     }
-    a
+    Stretch {
+        layout,
+        stop: 0,
+        post: 0,
+    }
 }
 
-// Past a node with the rigid layout `own`, after which r stands: a block begins the next stretch.
-pub fn past(own: ApproxLayout, so_far: ApproxLayout, r: &[u8]) -> ApproxLayout
-    ensures { λ a. ⌜ shape a ≡ past-in (shape own) (shape «so_far») (now (r .entry)) ⌝ }
+// At a node: where the block of a stretch has ended, the next one begins.
+pub fn entered(st: Stretch, s: &[u8], node: usize) -> Stretch
+    ensures { λ r. ⌜ said-stretch r ≡ entered-in (said-stretch st) node (now (s .entry)) ⌝ }
 {
-    match own {
-        ApproxLayout::Inline { worst, excess } => so_far,
-        ApproxLayout::BlockOrMixed { pre, post } => ahead(
-            r,
-            append(so_far, block_or_mixed(0, post)),
-        ),
+    if node == st.stop {
+        return ahead(s, node, st.layout);
+    }
+    st
+}
+
+// Behind a node that ends at `end`, once it is laid out: the stretch's block is followed by its last line.
+pub fn behind(st: Stretch, laid: ApproxLayout, end: usize) -> Stretch
+    ensures { λ r. ⌜ said-stretch r ≡ behind-in (said-stretch st) (shape laid) end ⌝ }
+{
+    if end == st.stop {
+        return Stretch {
+            layout: append(laid, block_or_mixed(0, st.post)),
+            stop: st.stop,
+            post: st.post,
+        };
+    }
+    Stretch {
+        layout: laid,
+        stop: st.stop,
+        post: st.post,
     }
 }

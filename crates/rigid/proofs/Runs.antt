@@ -5,7 +5,6 @@ use Prim.Native.Nat.{ℕ, _-_, _≤_, _<_}
 use native.Mathlib.Omega.{arith}
 use lib.ListN.{length, getD, take, drop, length-drop}
 use borrow.Author.Tests.{eq-eqb, ne-eqb, le-leb, lt-leb}
-use Rattle.rules.specs.Tree.{Styles}
 use Rattle.rules.specs.Layout.{Shape, Inline, _⊕_, byte-width, effective}
 use Rattle.fields.specs.declared.Field.{Field}
 use Rattle.fields.specs.declared.Field.the-variants.{Whole, Past, Cut}
@@ -47,10 +46,10 @@ module _ (v : List ℕ) {r : Shape} {f : Field} (e : f ≡ field-at v 0) where
       unfolding run-in styled-in
       cut-run n h = rw (sym e ∙ w, eq-eqb t 16 s, ← e′) (h ∙ sym (no-chars v _ g n))
 
-      pub styled-run : {st : Styles} {c : ℕ} {t′ from′ to′ : ℕ} → g ≡ Whole t′ from′ to′ → st ≡ styles-in (take (to - from) (drop from v))
-          → c ≡ byte-width (effective st) → r ≡ text-in c (take (to′ - from′) (drop from′ v)) → r ≡ run-in v
+      pub styled-run : {c t′ from′ to′ : ℕ} → g ≡ Whole t′ from′ to′ → c ≡ byte-width (effective (styles-in (take (to - from) (drop from v))))
+          → r ≡ text-in c (take (to′ - from′) (drop from′ v)) → r ≡ run-in v
       unfolding run-in styled-in chars-in part
-      styled-run w′ es ec h = rw (sym e ∙ w, eq-eqb t 16 s, ← es, ← ec, sym e′ ∙ w′) h
+      styled-run w′ ec h = rw (sym e ∙ w, eq-eqb t 16 s, ← ec, sym e′ ∙ w′) h
 
 -- ---- a field of a 2
 

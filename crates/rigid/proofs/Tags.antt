@@ -12,9 +12,6 @@ use Rattle.rules.specs.Bytes.{cap}
 use Rattle.parts.proofs.Spans.{behind}
 use Rattle.shapes.proofs.Appending.{cap-under, cap-over}
 use Rattle.rules.specs.Layout.{Shape, Inline, Block, only-if-block}
-use Rattle.shapes.specs.declared.ApproxLayout as Code
-use Rattle.shapes.specs.declared.ApproxLayout.{ApproxLayout}
-use Rattle.shapes.specs.Shapes.{shape}
 use Rattle.rigid.specs.RigidIn.{wide, text-in, run-in, anchor-in, by-tag, rigid-in}
 
 -- ---- a width by its product
@@ -42,13 +39,13 @@ so-wide n w h = sym (cap-under (n * w) h)
 
 -- ---- a 7
 
-module _ (a : ApproxLayout) {r : Shape} {x y : ℕ} where
-  pub only-inline : a ≡ Code.the-variants.Inline x y → r ≡ Inline x x → r ≡ only-if-block (shape a)
-  unfolding shape only-if-block
+module _ (a : Shape) {r : Shape} {x y : ℕ} where
+  pub only-inline : a ≡ Inline x y → r ≡ Inline x x → r ≡ only-if-block a
+  unfolding only-if-block
   only-inline is h = rw is h
 
-  pub only-block : a ≡ Code.the-variants.BlockOrMixed x y → r ≡ Inline 0 0 → r ≡ only-if-block (shape a)
-  unfolding shape only-if-block
+  pub only-block : a ≡ Block x y → r ≡ Inline 0 0 → r ≡ only-if-block a
+  unfolding only-if-block
   only-block is h = rw is h
 
 -- ---- by the tag

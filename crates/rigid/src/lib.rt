@@ -9,9 +9,10 @@ use parts::field_end;
 use shapes::ApproxLayout;
 use shapes::append;
 use shapes::block_or_mixed;
+use shapes::first;
 use shapes::inline;
-use styles::byte_width;
-use styles::read_styles;
+use shapes::is_block;
+use styles::byte_width_in;
 use texts::first_line_end;
 
 // The width of a byte without a style.
@@ -70,7 +71,7 @@ fn run_layout(v: &[u8]) -> ApproxLayout
     if tag != 16 {
         return text_layout(&v[from..to], BYTE);
     }
-    let w = byte_width(read_styles(&v[from..to]));
+    let w = byte_width_in(&v[from..to]);
     let Field::Whole {
         tag: t,
         from: f,
@@ -113,10 +114,11 @@ fn anchor_layout(v: &[u8]) -> ApproxLayout
 fn only_if_block(a: ApproxLayout) -> ApproxLayout
     ensures { λ r. ⌜ shape r ≡ only-if-block (shape a) ⌝ }
 {
-    match a {
-        ApproxLayout::Inline { worst, excess } => inline(worst, worst),
-        ApproxLayout::BlockOrMixed { pre, post } => inline(0, 0),
+    if is_block(a) {
+        return inline(0, 0);
     }
+    let worst = first(a);
+    inline(worst, worst)
 }
 
 // A field's value, by its tag.

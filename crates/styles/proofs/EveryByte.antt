@@ -4,7 +4,7 @@ use mathlib.Core.Bool.{Bool, true, false, _&&_}
 use Prim.Native.Nat.{ℕ, zero, suc, _<_, _^_}
 use native.Mathlib.Decide.{decLt}
 use native.Mathlib.Omega.{arith}
-use lib.Dec.{T, ltb, eqb, ltb→lt, eqb→eq}
+use lib.Dec.{T, ltb, ltb→lt}
 use lib.IntN.{ℤ, pos, negsuc}
 use lib.Ieee.Fits.{and-l, and-r}
 use lib.Signed.{mag}
@@ -46,14 +46,6 @@ every P = below 128 (λ n. P (pos n)) && below 128 (λ n. P (negsuc n))
 at-every : (P : ℤ → Bool) → T (every P) → (z : ℤ) → SFits w8 z → T (P z)
 at-every P t (pos n) f = at-below 128 (λ n. P (pos n)) (and-l (below 128 (λ n. P (pos n))) (below 128 (λ n. P (negsuc n))) t) n (f .sfits)
 at-every P t (negsuc n) f = at-below 128 (λ n. P (negsuc n)) (and-r (below 128 (λ n. P (pos n))) (below 128 (λ n. P (negsuc n))) t) n (f .sfits)
-
--- Q holds of each signed byte of which P does
-pub of-signed : (P Q : ℤ → Bool) → T (every (λ z. implies (P z) (Q z))) → (z : ℤ) → SFits w8 z → P z ≡ true → T (Q z)
-of-signed P Q t z f e = implied (P z) (Q z) (at-every (λ z. implies (P z) (Q z)) t z f) e
-
--- an equation of numbers does
-pub equal : (P : ℤ → Bool) (a b : ℤ → ℕ) → T (every (λ z. implies (P z) (eqb (a z) (b z)))) → (z : ℤ) → SFits w8 z → P z ≡ true → a z ≡ b z
-equal P a b t z f e = eqb→eq (a z) (b z) (of-signed P (λ z. eqb (a z) (b z)) t z f e)
 
 -- a number made of each signed byte fits a width
 pub fitting : (w : Width) (e : ℤ → ℤ) → T (every (λ z. ltb (mag (e z)) (2 ^ hbits w))) → (z : ℤ) → SFits w8 z → SFits w (e z)

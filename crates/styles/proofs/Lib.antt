@@ -5,3 +5,4 @@ pub mod Opacity
 pub mod Parts
 pub mod Reading
 pub mod Sizes
+pub mod Widths

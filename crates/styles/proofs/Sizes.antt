@@ -1,23 +1,23 @@
--- Sizes: signed bytes, the effective size of a style record, and the width of one byte.
+-- Sizes: signed bytes, and the effective size of a style record.
 use mathlib.Core.Path.{_≡_, refl, sym, ap, _∙_}
-use mathlib.Core.Option.{Option, none, some}
-use mathlib.Core.Bool.{Bool, true, false, not, _||_}
+use mathlib.Core.Option.{none, some}
+use mathlib.Core.Bool.{Bool, true, false, _||_}
 use Prim.Native.Nat.{ℕ, suc, _-_, _<_, _≤_, _^_}
 use native.Mathlib.Omega.{arith}
-use lib.Dec.{T, leb, ltb, eqb, ltb→lt, eqb→eq}
-use lib.IntN.{ℤ, pos, negsuc, natAbs, _+ℤ_, _-ℤ_}
-use lib.Signed.{mag, leZ, ltZ, nonNeg}
+use lib.Dec.{leb, ltb, eqb, ltb→lt, eqb→eq}
+use lib.IntN.{ℤ, pos, negsuc, _-ℤ_}
+use lib.Signed.{mag, leZ}
 use borrow.Author.Tests.{lt-ltb, le-ltb, le-leb}
 use mir.Syntax.{w8, w16}
-use mir.Val.{SFits, Fits, toZ, ofZ}
+use mir.Val.{SFits, toZ, ofZ}
 use mir.ValLaws.{toZ-ofZ}
 use Rattle.rules.specs.Digits.{signed}
 use Rattle.rules.specs.Walk.{right-size}
-use Rattle.rules.specs.Layout.{or-script, effective, not-negative, byte-width}
+use Rattle.rules.specs.Layout.{or-script, effective}
 use Rattle.styles.specs.declared.Styles.{Styles}
-use Rattle.styles.specs.Said.{flagged, said-styles, or-zero, is-there}
+use Rattle.styles.specs.Said.{flagged, said-styles, is-there}
 use Rattle.styles.specs.StylesWritable.{size-test}
-use Rattle.styles.proofs.EveryByte.{of-byte, of-signed, equal, fitting}
+use Rattle.styles.proofs.EveryByte.{of-byte}
 
 -- ---- a byte as a signed one: below 128 itself, else 256 less
 
@@ -72,42 +72,3 @@ module _ (st : Styles) where
       by-script : (b : Bool) → b ≡ is-there (or-script none b)
       by-script true = refl
       by-script false = refl
-
--- ---- the width of one byte
-
--- by the effective size, or 0 where there is none
-pub width-of : (o : Option ℤ) → byte-width o ≡ not-negative (pos 10 +ℤ or-zero o)
-unfolding byte-width or-zero not-negative
-width-of none = refl
-width-of (some size) = refl
-
-abbrev widened : ℤ → ℤ
-widened z = toZ w8 (ofZ w8 z)
-
-abbrev sum : ℤ → ℤ
-sum z = pos 10 +ℤ toZ w16 (ofZ w16 (widened z))
-
-abbrev width : ℤ → ℤ
-width z = toZ w16 (ofZ w16 (sum z))
-
-module _ (z : ℤ) (f : SFits w8 z) where
-  pub widened-fits : SFits w16 (widened z)
-  widened-fits = fitting w16 widened tt z f
-
-  pub sum-fits : SFits w16 (sum z)
-  sum-fits = fitting w16 sum tt z f
-
-  pub negative : ltZ (width z) (pos 0) ≡ true → 0 ≡ not-negative (pos 10 +ℤ z)
-  unfolding not-negative
-  negative e = equal (λ z. ltZ (width z) (pos 0)) (λ z. 0) (λ z. not-negative (pos 10 +ℤ z)) tt z f e
-
-  module _ (e : ltZ (width z) (pos 0) ≡ false) where
-    pub width-fits : T (nonNeg (width z)) × Fits w16 (natAbs (width z))
-    width-fits = (
-      of-signed (λ z. not (ltZ (width z) (pos 0))) (λ z. nonNeg (width z)) tt z f (ap not e),
-      record { fits = ltb→lt _ _ (of-signed (λ z. true) (λ z. ltb (natAbs (width z)) (2 ^ 16)) tt z f refl) },
-    )
-
-    pub positive : natAbs (width z) ≡ not-negative (pos 10 +ℤ z)
-    unfolding not-negative
-    positive = equal (λ z. not (ltZ (width z) (pos 0))) (λ z. natAbs (width z)) (λ z. not-negative (pos 10 +ℤ z)) tt z f (ap not e)

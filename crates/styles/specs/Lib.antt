@@ -3,3 +3,4 @@ pub mod Said
 pub mod StylesIn
 pub mod Sound
 pub mod StylesWritable
+pub mod WidthIn

@@ -10,6 +10,7 @@ ghost use Rattle.rules.specs.Walk.{right-opacity};
 ghost use Rattle.rules.specs.Layout as layout;
 ghost use Rattle.styles.specs.Said.{said-styles, or-zero, is-there, Allowed};
 ghost use Rattle.styles.specs.StylesIn.{no-styles, with-field, styles-in};
+ghost use Rattle.styles.specs.WidthIn.{script-with, width-with};
 use fields::Field;
 use fields::field_at;
 
@@ -250,17 +251,6 @@ pub fn has_effective(st: Styles) -> bool
     st.superscript
 }
 
-// The width of one byte, in tenths of a column: 10 and the effective size, or 0 where that is negative.
-pub fn byte_width(st: Styles) -> u16
-    ensures { λ r. ⌜ r ≡ layout.byte-width (layout.effective (said-styles st)) ⌝ }
-{
-    let w = 10 + (effective(st) as i16);
-    if w < 0 {
-        return 0;
-    }
-    w as u16
-}
-
 // The opacity's bits. That it is allowed rules out a NaN, which has no bits.
 pub fn opacity_bits(st: Styles) -> u32
     requires { ⌜ st .«has_opacity» ≡ true ⌝ }
@@ -269,4 +259,71 @@ pub fn opacity_bits(st: Styles) -> u32
 {
     let x = st.opacity;
     f32::to_bits(x)
+}
+
+// Added to a byte's width once a size was read: a script then says nothing.
+const SIZED: u16 = 256;
+
+// The width of a byte under 36 or 37.
+const SCRIPT_WIDTH: u16 = 8;
+
+// A field 35 put into a byte's width: 10 and the size, or 0 where that is negative.
+fn with_size_width(w: u16, v: &[u8]) -> u16
+    ensures { λ r. ⌜ r ≡ width-with w 35 (now (v .entry)) ⌝ }
+{
+    if v.len() != 1 {
+        return w;
+    }
+    let b = v[0];
+    if b < 118 {
+        return SIZED + 10 + (b as u16);
+    }
+    if b < 128 {
+        return w;
+    }
+    if b < 246 {
+        return SIZED;
+    }
+    SIZED + ((b as u16) - 246)
+}
+
+// A field 36 or 37 put into a byte's width.
+fn with_script_width(w: u16, v: &[u8]) -> u16
+    ensures { λ r. ⌜ r ≡ script-with w (now (v .entry)) ⌝ }
+{
+    if v.len() != 0 {
+        return w;
+    }
+    if w < SIZED {
+        return SCRIPT_WIDTH;
+    }
+    w
+}
+
+// A field put into a byte's width, by its tag; only sizes and scripts say something.
+fn with_width(w: u16, tag: u8, v: &[u8]) -> u16
+    ensures { λ r. ⌜ r ≡ width-with w tag (now (v .entry)) ⌝ }
+{
+    match tag {
+        35 => with_size_width(w, v),
+        36 => with_script_width(w, v),
+        37 => with_script_width(w, v),
+        _ => w,
+    }
+}
+
+// The width of one byte under the style that the fields of some bytes say, in tenths of a column. It is read alone, since layout needs no more.
+pub fn byte_width_in(v: &[u8]) -> u16
+    ensures { λ r. ⌜ r ≡ layout.byte-width (layout.effective (styles-in (now (v .entry)))) ⌝ }
+{
+    let mut w = 10;
+    let mut at = 0;
+    while at < v.len() {
+        let Field::Whole { tag, from, to } = field_at(v, at) else {
+            return w % SIZED;
+        };
+        w = with_width(w, tag, &v[from..to]);
+        at = to;
+    }
+    w % SIZED
 }

@@ -38,20 +38,17 @@ returns-2 c =
     plain-run _ (c .before .before .before .before .before .before .field-at .ensures) (c .before .before .before .before .tag .given .1)
     (c .before .before .if1 .taken) (c .text-layout .ensures)
 
-sub-read-styles : tie.Need-sub-read-styles
-sub-read-styles c = whole-inside _ _ _ _ _ _ (c .before .before .before .before .field-at .ensures) (c .before .before .tag .given .1) .rising
+sub-byte-width-in : tie.Need-sub-byte-width-in
+sub-byte-width-in c = whole-inside _ _ _ _ _ _ (c .before .before .before .before .field-at .ensures) (c .before .before .tag .given .1) .rising
 
-part-read-styles-start : tie.Need-part-read-styles-start
-part-read-styles-start c = whole-inside _ _ _ _ _ _ (c .before .before .before .before .field-at .ensures) (c .before .before .tag .given .1) .rising
+part-byte-width-in-start : tie.Need-part-byte-width-in-start
+part-byte-width-in-start c = whole-inside _ _ _ _ _ _ (c .before .before .before .before .field-at .ensures) (c .before .before .tag .given .1) .rising
 
-part-read-styles-end : tie.Need-part-read-styles-end
-part-read-styles-end c = whole-inside _ _ _ _ _ _ (c .before .before .before .before .field-at .ensures) (c .before .before .tag .given .1) .ends
+part-byte-width-in-end : tie.Need-part-byte-width-in-end
+part-byte-width-in-end c = whole-inside _ _ _ _ _ _ (c .before .before .before .before .field-at .ensures) (c .before .before .tag .given .1) .ends
 
-read-styles-requires : tie.Need-read-styles-requires
-read-styles-requires c κs = search needs
-
-byte-width-requires : tie.Need-byte-width-requires
-byte-width-requires c κs = search needs
+byte-width-in-requires : tie.Need-byte-width-in-requires
+byte-width-in-requires c κs = search needs
 
 field-at-requires-2 : tie.Need-field-at-requires-2
 field-at-requires-2 c κs = search needs
@@ -64,9 +61,9 @@ inline-requires-2 c κs = search needs
 
 returns-3 : tie.Need-returns-3
 returns-3 c =
-    cut-run _ (c .before .before .before .before .before .before .before .before .before .before .field-at .ensures)
-    (c .before .before .before .before .before .before .before .before .tag .given .1)
-    (c .before .before .before .before .before .before .if1 .left) (c .before .before .field-at2 .ensures)
+    cut-run _ (c .before .before .before .before .before .before .before .before .before .field-at .ensures)
+    (c .before .before .before .before .before .before .before .tag .given .1)
+    (c .before .before .before .before .before .if1 .left) (c .before .before .field-at2 .ensures)
     (λ t from to e. ⊎-elim (λ k. omega arith) (λ k. omega arith) (rw e at (c .before .match2 .keys2))) (c .inline2 .ensures)
 
 sub-text-layout-2 : tie.Need-sub-text-layout-2
@@ -83,12 +80,11 @@ text-layout-requires-2 c κs = search needs
 
 returns-4 : tie.Need-returns-4
 returns-4 c =
-    styled-run _ (c .before .before .before .before .before .before .before .before .before .before .before .before .before .field-at .ensures)
-    (c .before .before .before .before .before .before .before .before .before .before .before .tag .given .1)
-    (c .before .before .before .before .before .before .before .before .before .if1 .left)
+    styled-run _ (c .before .before .before .before .before .before .before .before .before .before .before .before .field-at .ensures)
+    (c .before .before .before .before .before .before .before .before .before .before .tag .given .1)
+    (c .before .before .before .before .before .before .before .before .if1 .left)
     (c .before .before .before .before .before .field-at2 .ensures) (c .before .before .before .t .given .1)
-    (c .before .before .before .before .before .before .before .read-styles .ensures)
-    (c .before .before .before .before .before .before .byte-width .ensures) (c .text-layout2 .ensures)
+    (c .before .before .before .before .before .before .byte-width-in .ensures) (c .text-layout2 .ensures)
 
 pub run-layout-spec : {M : Type 1} → statement M
 run-layout-spec =
@@ -103,11 +99,10 @@ run-layout-spec =
     part-text-layout-end
     text-layout-requires
     returns-2
-    sub-read-styles
-    part-read-styles-start
-    part-read-styles-end
-    read-styles-requires
-    byte-width-requires
+    sub-byte-width-in
+    part-byte-width-in-start
+    part-byte-width-in-end
+    byte-width-in-requires
     field-at-requires-2
     enum-known-t
     inline-requires-2

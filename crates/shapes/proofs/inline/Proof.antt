@@ -1,12 +1,17 @@
 -- `shapes::inline` meets its contract.
-use mathlib.Core.Path.{refl}
-use Rattle.shapes.specs.Shapes.{shape}
+use Rattle.shapes.proofs.Numbers.{line-number}
+use borrow.Author.Needs.{needs}
 use Rattle.shapes.proofs.inline.Statement.{statement}
 use Rattle.shapes.proofs.inline.Tie as tie
 
+mul-result : tie.Need-mul-result
+mul-result c = search needs
+
+add-result : tie.Need-add-result
+add-result c = search needs
+
 returns : tie.Need-returns
-unfolding shape
-returns c = refl
+returns c = line-number _ _ (c .fits .worst .fits) (c .fits .excess .fits)
 
 pub inline-spec : {M : Type 1} → statement M
-inline-spec = tie.close (tie.spec returns)
+inline-spec = tie.close (tie.spec mul-result add-result returns)

@@ -1,15 +1,14 @@
 -- `layout::choice::decide` meets its contract: a block, a candidate that does not fit, and one that does.
-use borrow.Author.Needs.{needs}
+use mathlib.Core.Path.{refl}
+use Rattle.shapes.proofs.Numbers.{line, lines}
 use Rattle.layout.specs.Said.{said}
 use Rattle.layout.proofs.ChoiceLaws.{decided-block, decided-over, decided-within}
+use borrow.Author.Needs.{needs}
 use Rattle.layout.proofs.choice.decide.Statement.{statement}
 use Rattle.layout.proofs.choice.decide.Tie as tie
 
-enum-known-a : tie.Need-enum-known-a
-enum-known-a c = search needs
-
-enum-told : tie.Need-enum-told
-enum-told c = search needs
+is-block-requires : tie.Need-is-block-requires
+is-block-requires c κs = search needs
 
 indented-requires : tie.Need-indented-requires
 indented-requires c κs = search needs
@@ -18,7 +17,13 @@ same-length : tie.Need-same-length
 same-length c = search needs
 
 returns : tie.Need-returns
-returns c = decided-block _ _ _ _ (c .before .before .before .before .enum-told .given .1) (c .before .before .indented .ensures)
+returns c = decided-block _ _ _ _ (lines _ (c .before .before .before .before .before .is-block .ensures) refl refl (c .before .before .before .before .if1 .taken)) (c .before .before .indented .ensures)
+
+first-requires : tie.Need-first-requires
+first-requires c κs = search needs
+
+second-requires : tie.Need-second-requires
+second-requires c κs = search needs
 
 saturating-sub-requires : tie.Need-saturating-sub-requires
 saturating-sub-requires c κs = search needs
@@ -30,7 +35,7 @@ same-length-2 : tie.Need-same-length-2
 same-length-2 c = search needs
 
 returns-2 : tie.Need-returns-2
-returns-2 c = decided-over _ _ _ _ (c .before .before .before .before .before .before .before .a .given .1) (c .before .before .before .before .before .saturating-sub .ensures) (c .before .before .before .before .if1 .taken) (c .before .before .indented2 .ensures)
+returns-2 c = decided-over _ _ _ _ (line _ (c .before .before .before .before .before .before .before .before .before .is-block .ensures) (c .before .before .before .before .before .before .before .first .ensures) (c .before .before .before .before .before .before .second .ensures) (c .before .before .before .before .before .before .before .before .if1 .left)) (c .before .before .before .before .before .saturating-sub .ensures) (c .before .before .before .before .if2 .taken) (c .before .before .indented2 .ensures)
 
 inline-requires : tie.Need-inline-requires
 inline-requires c κs = search needs
@@ -40,17 +45,18 @@ append-requires c κs = search needs
 
 returns-3 : tie.Need-returns-3
 unfolding said
-returns-3 c = decided-within _ _ _ _ (c .before .before .before .before .before .a .given .1) (c .before .before .before .saturating-sub .ensures) (c .before .before .if1 .left) (c .before .inline .ensures) (c .append .ensures)
+returns-3 c = decided-within _ _ _ _ (line _ (c .before .before .before .before .before .before .before .is-block .ensures) (c .before .before .before .before .before .first .ensures) (c .before .before .before .before .second .ensures) (c .before .before .before .before .before .before .if1 .left)) (c .before .before .before .saturating-sub .ensures) (c .before .before .if2 .left) (c .before .inline .ensures) (c .append .ensures)
 
 pub decide-spec : {M : Type 1} → statement M
 decide-spec =
     tie.close
     (tie.spec
-    enum-known-a
-    enum-told
+    is-block-requires
     indented-requires
     same-length
     returns
+    first-requires
+    second-requires
     saturating-sub-requires
     indented-requires-2
     same-length-2

@@ -1,6 +1,7 @@
--- `approx_flex_layout`, `approx_fragments_layout` and `approx_layout` meet their contracts: the blocks that are left fall; each loop's invariant is `Part`.
+-- `approx_flex_layout`, `approx_fragments_layout` and `approx_layout` meet their contracts: the blocks that are left fall; the loops' invariants are
+-- `Part` and, with the stretch, `Going`.
 use native.Mathlib.Omega.{arith}
-use lib.ListN.{length, drop}
+use lib.ListN.{length}
 use borrow.Author.Needs.{needs}
 use mathlib.Core.Path.{_∙_}
 use Prim.Native.Nat.{ℕ, _+_, _*_, _-_, _<_}
@@ -10,10 +11,10 @@ use Rattle.rules.specs.Layout.{Inline}
 use Rattle.shapes.specs.Shapes.{shape}
 use Rattle.parts.proofs.Spans.{end-after, end-within}
 use Rattle.parts.proofs.Loops.{Part, more, ends}
-use Rattle.layout.specs.Said.{said}
-use Rattle.layout.specs.LaidIn.{ahead-in, with-fragment, fragments-in, with-node, nodes-in, flex-in, fragment-in}
+use Rattle.layout.specs.Said.{said, said-stretch}
+use Rattle.layout.specs.LaidIn.{with-fragment, fragments-in, flex-in, fragment-in}
 use Rattle.layout.proofs.NodeLaws.{says, no-depth, no-bytes, other-tag, tag-three, tag-four}
-use Rattle.layout.proofs.LoopLaws.{end-stands, fragments-start, fragment-more, nodes-none, nodes-start, behind, node-more}
+use Rattle.layout.proofs.LoopLaws.{fragments-start, fragment-more, Going, nodes-start, nodes-turn, nodes-end}
 use Rattle.layout.proofs.flex.approx_flex_layout.Reads as approx-flex-layout
 use Rattle.layout.proofs.flex.approx_flex_layout.Kinds as approx-flex-layout-kinds
 use Rattle.layout.proofs.flex.+approx_flex_layout+approx_fragments_layout+approx_layout.Lts-approx_flex_layout as approx-flex-layout-lts
@@ -27,10 +28,9 @@ use Rattle.layout.proofs.choice.decide.Reads as decide-reads
 use Rattle.layout.proofs.choice.laid_out.Reads as laid-out-reads
 use Rattle.layout.proofs.choice.larger.Reads as larger-reads
 use Rattle.layout.proofs.choice.room.Reads as room-reads
-use Rattle.layout.proofs.stretch.ahead.Reads as ahead-reads
-use Rattle.layout.proofs.stretch.past.Reads as past-reads
+use Rattle.layout.proofs.stretch.behind.Reads as behind-reads
+use Rattle.layout.proofs.stretch.entered.Reads as entered-reads
 use Rattle.parts.proofs.field_end.Reads as field-end-reads
-use Rattle.rigid.proofs.approx_rigid_layout.Reads as approx-rigid-layout-reads
 use Rattle.shapes.proofs.append.Reads as append-reads
 use Rattle.shapes.proofs.block_or_mixed.Reads as block-or-mixed-reads
 use Rattle.shapes.proofs.inline.Reads as inline-reads
@@ -266,94 +266,109 @@ unfolding said fragments-in
 approx-fragments-layout-returns t c = ends (c .before .loop .inv) (c .loop-test .left)
 
 abbrev approx-layout-given : ℕ → approx-layout-lts.Claims
-approx-layout-given t = (inline-reads.Asked, inline-reads.Learnt, ahead-reads.Asked, ahead-reads.Learnt, field-end-reads.Asked, field-end-reads.Learnt, approx-rigid-layout-reads.Asked, approx-rigid-layout-reads.Learnt, approx-flex-layout-below t, approx-flex-layout.Post, past-reads.Asked, past-reads.Learnt, saturating-add-reads.Asked, saturating-add-reads.Learnt)
+approx-layout-given t = (inline-reads.Asked, inline-reads.Learnt, entered-reads.Asked, entered-reads.Learnt, field-end-reads.Asked, field-end-reads.Learnt, approx-flex-layout-below t, approx-flex-layout.Post, behind-reads.Asked, behind-reads.Learnt, saturating-add-reads.Asked, saturating-add-reads.Learnt, laid-out-reads.Asked, laid-out-reads.Learnt)
 
 abbrev approx-layout-Inv-loop : approx-layout-lts.InvT-loop
-approx-layout-Inv-loop s₀ from widths left layout₀ changed₀ node₀ s layout changed node = Part (with-node (flex-in left (widths .inline) (widths .block))) from (ahead-in (length (drop from s₀)) (Inline 0 0) (drop from s₀), 0) s₀ node (shape layout, changed) s
+approx-layout-Inv-loop s₀ from widths left st₀ changed₀ node₀ s st changed node = Going (flex-in left (widths .inline) (widths .block)) from s₀ node (said-stretch st) changed s
 
 abbrev approx-layout-μ-loop : approx-layout-lts.MeasureT-loop
-approx-layout-μ-loop s₀ from widths left layout₀ changed₀ node₀ s layout changed node = length s₀ - node
+approx-layout-μ-loop s₀ from widths left st₀ changed₀ node₀ s st changed node = length s₀ - node
 
 approx-layout-inline-requires : (t : ℕ) → approx-layout-lts.Need-inline-requires (approx-layout-given t) (approx-layout-at t) approx-layout.Post approx-layout-Inv-loop approx-layout-μ-loop
 approx-layout-inline-requires t c κs = search needs
 
-approx-layout-returns : (t : ℕ) → approx-layout-lts.Need-returns (approx-layout-given t) (approx-layout-at t) approx-layout.Post approx-layout-Inv-loop approx-layout-μ-loop
-unfolding said fragment-in
-approx-layout-returns t c = nodes-none _ _ _ (c .before .if1 .taken) (c .inline .ensures)
-
-approx-layout-sub-ahead : (t : ℕ) → approx-layout-lts.Need-sub-ahead (approx-layout-given t) (approx-layout-at t) approx-layout.Post approx-layout-Inv-loop approx-layout-μ-loop
-approx-layout-sub-ahead t c = search needs
-
-approx-layout-part-ahead-start : (t : ℕ) → approx-layout-lts.Need-part-ahead-start (approx-layout-given t) (approx-layout-at t) approx-layout.Post approx-layout-Inv-loop approx-layout-μ-loop
-approx-layout-part-ahead-start t c = search needs
-
-approx-layout-part-ahead-end : (t : ℕ) → approx-layout-lts.Need-part-ahead-end (approx-layout-given t) (approx-layout-at t) approx-layout.Post approx-layout-Inv-loop approx-layout-μ-loop
-approx-layout-part-ahead-end t c = search needs
-
-approx-layout-inline-requires-2 : (t : ℕ) → approx-layout-lts.Need-inline-requires-2 (approx-layout-given t) (approx-layout-at t) approx-layout.Post approx-layout-Inv-loop approx-layout-μ-loop
-approx-layout-inline-requires-2 t c κs = search needs
-
-approx-layout-ahead-requires : (t : ℕ) → approx-layout-lts.Need-ahead-requires (approx-layout-given t) (approx-layout-at t) approx-layout.Post approx-layout-Inv-loop approx-layout-μ-loop
-approx-layout-ahead-requires t c κs = search needs
-
 approx-layout-loop-holds : (t : ℕ) → approx-layout-lts.Need-loop-holds (approx-layout-given t) (approx-layout-at t) approx-layout.Post approx-layout-Inv-loop approx-layout-μ-loop
-approx-layout-loop-holds t c = nodes-start _ _ _ (c .before .before .before .before .if1 .left) (c .before .inline2 .ensures) (c .ahead .ensures)
+unfolding said-stretch
+approx-layout-loop-holds t c = nodes-start _ _ _ (c .inline .ensures)
+
+approx-layout-entered-requires : (t : ℕ) → approx-layout-lts.Need-entered-requires (approx-layout-given t) (approx-layout-at t) approx-layout.Post approx-layout-Inv-loop approx-layout-μ-loop
+approx-layout-entered-requires t c κs = search needs
 
 approx-layout-field-end-requires : (t : ℕ) → approx-layout-lts.Need-field-end-requires (approx-layout-given t) (approx-layout-at t) approx-layout.Post approx-layout-Inv-loop approx-layout-μ-loop
 approx-layout-field-end-requires t c κs = omega arith
 
-approx-layout-sub-approx-rigid-layout : (t : ℕ) → approx-layout-lts.Need-sub-approx-rigid-layout (approx-layout-given t) (approx-layout-at t) approx-layout.Post approx-layout-Inv-loop approx-layout-μ-loop
-approx-layout-sub-approx-rigid-layout t c = omega (arith, end-after (c .field-end .ensures) (c .before .before .loop-test .taken))
-
-approx-layout-part-approx-rigid-layout-start : (t : ℕ) → approx-layout-lts.Need-part-approx-rigid-layout-start (approx-layout-given t) (approx-layout-at t) approx-layout.Post approx-layout-Inv-loop approx-layout-μ-loop
-approx-layout-part-approx-rigid-layout-start t c = omega (arith, end-after (c .before .field-end .ensures) (c .before .before .before .loop-test .taken))
-
-approx-layout-part-approx-rigid-layout-end : (t : ℕ) → approx-layout-lts.Need-part-approx-rigid-layout-end (approx-layout-given t) (approx-layout-at t) approx-layout.Post approx-layout-Inv-loop approx-layout-μ-loop
-approx-layout-part-approx-rigid-layout-end t c = end-within (c .before .field-end .ensures) (c .before .before .before .loop-test .taken)
-
-approx-layout-approx-rigid-layout-requires : (t : ℕ) → approx-layout-lts.Need-approx-rigid-layout-requires (approx-layout-given t) (approx-layout-at t) approx-layout.Post approx-layout-Inv-loop approx-layout-μ-loop
-approx-layout-approx-rigid-layout-requires t c κs = search needs
-
 approx-layout-sub-approx-flex-layout : (t : ℕ) → approx-layout-lts.Need-sub-approx-flex-layout (approx-layout-given t) (approx-layout-at t) approx-layout.Post approx-layout-Inv-loop approx-layout-μ-loop
-approx-layout-sub-approx-flex-layout t c = omega (arith, end-after (c .before .before .before .field-end .ensures) (c .before .before .before .before .before .loop-test .taken))
+approx-layout-sub-approx-flex-layout t c = omega (arith, end-after (c .field-end .ensures) (c .before .before .before .before .loop-test .taken))
 
-approx-layout-part-approx-flex-layout-start : (t : ℕ) → approx-layout-lts.Need-part-approx-flex-layout-start (approx-layout-given t) (approx-layout-at t) approx-layout.Post approx-layout-Inv-loop approx-layout-μ-loop
-approx-layout-part-approx-flex-layout-start t c = omega (arith, end-after (c .before .before .before .field-end .ensures) (c .before .before .before .before .before .loop-test .taken))
+approx-layout-part-approx-flex-layout-start :
+    (t : ℕ) → approx-layout-lts.Need-part-approx-flex-layout-start (
+      inline-reads.Asked,
+      inline-reads.Learnt,
+      entered-reads.Asked,
+      entered-reads.Learnt,
+      field-end-reads.Asked,
+      field-end-reads.Learnt,
+      approx-flex-layout-below t,
+      approx-flex-layout.Post,
+      behind-reads.Asked,
+      behind-reads.Learnt,
+      saturating-add-reads.Asked,
+      saturating-add-reads.Learnt,
+      laid-out-reads.Asked,
+      laid-out-reads.Learnt,
+    ) (approx-layout-at t) approx-layout.Post approx-layout-Inv-loop approx-layout-μ-loop
+approx-layout-part-approx-flex-layout-start t c = omega (arith, end-after (c .field-end .ensures) (c .before .before .before .before .loop-test .taken))
 
-approx-layout-part-approx-flex-layout-end : (t : ℕ) → approx-layout-lts.Need-part-approx-flex-layout-end (approx-layout-given t) (approx-layout-at t) approx-layout.Post approx-layout-Inv-loop approx-layout-μ-loop
-approx-layout-part-approx-flex-layout-end t c = end-within (c .before .before .before .field-end .ensures) (c .before .before .before .before .before .loop-test .taken)
+approx-layout-part-approx-flex-layout-end :
+    (t : ℕ) → approx-layout-lts.Need-part-approx-flex-layout-end (
+      inline-reads.Asked,
+      inline-reads.Learnt,
+      entered-reads.Asked,
+      entered-reads.Learnt,
+      field-end-reads.Asked,
+      field-end-reads.Learnt,
+      approx-flex-layout-below t,
+      approx-flex-layout.Post,
+      behind-reads.Asked,
+      behind-reads.Learnt,
+      saturating-add-reads.Asked,
+      saturating-add-reads.Learnt,
+      laid-out-reads.Asked,
+      laid-out-reads.Learnt,
+    ) (approx-layout-at t) approx-layout.Post approx-layout-Inv-loop approx-layout-μ-loop
+approx-layout-part-approx-flex-layout-end t c = end-within (c .field-end .ensures) (c .before .before .before .before .loop-test .taken)
 
-approx-layout-approx-flex-layout-requires : (t : ℕ) → approx-layout-lts.Need-approx-flex-layout-requires (approx-layout-given t) (approx-layout-at t) approx-layout.Post approx-layout-Inv-loop approx-layout-μ-loop
-approx-layout-approx-flex-layout-requires t c κs = (omega (arith, c .before .before .before .before .before .before .before .before .before .before .before .before .before .before .pre .0), tt)
+approx-layout-approx-flex-layout-requires :
+    (t : ℕ) → approx-layout-lts.Need-approx-flex-layout-requires (
+      inline-reads.Asked,
+      inline-reads.Learnt,
+      entered-reads.Asked,
+      entered-reads.Learnt,
+      field-end-reads.Asked,
+      field-end-reads.Learnt,
+      approx-flex-layout-below t,
+      approx-flex-layout.Post,
+      behind-reads.Asked,
+      behind-reads.Learnt,
+      saturating-add-reads.Asked,
+      saturating-add-reads.Learnt,
+      laid-out-reads.Asked,
+      laid-out-reads.Learnt,
+    ) (approx-layout-at t) approx-layout.Post approx-layout-Inv-loop approx-layout-μ-loop
+approx-layout-approx-flex-layout-requires t c κs = (omega (arith, c .before .before .before .before .before .before .before .before .before .pre .0), tt)
 
-approx-layout-sub-past : (t : ℕ) → approx-layout-lts.Need-sub-past (approx-layout-given t) (approx-layout-at t) approx-layout.Post approx-layout-Inv-loop approx-layout-μ-loop
-approx-layout-sub-past t c = end-stands _ _ _ (c .before .before .approx-flex-layout .ensures) (omega (arith, end-after (c .before .before .before .before .before .before .before .field-end .ensures) (c .before .before .before .before .before .before .before .before .before .loop-test .taken))) (end-within (c .before .before .before .before .before .before .before .field-end .ensures) (c .before .before .before .before .before .before .before .before .before .loop-test .taken)) (c .before .before .approx-flex-layout .kept .0)
-
-approx-layout-part-past-start : (t : ℕ) → approx-layout-lts.Need-part-past-start (approx-layout-given t) (approx-layout-at t) approx-layout.Post approx-layout-Inv-loop approx-layout-μ-loop
-approx-layout-part-past-start t c = end-stands _ _ _ (c .before .before .before .approx-flex-layout .ensures) (omega (arith, end-after (c .before .before .before .before .before .before .before .before .field-end .ensures) (c .before .before .before .before .before .before .before .before .before .before .loop-test .taken))) (end-within (c .before .before .before .before .before .before .before .before .field-end .ensures) (c .before .before .before .before .before .before .before .before .before .before .loop-test .taken)) (c .before .before .before .approx-flex-layout .kept .0)
-
-approx-layout-part-past-end : (t : ℕ) → approx-layout-lts.Need-part-past-end (approx-layout-given t) (approx-layout-at t) approx-layout.Post approx-layout-Inv-loop approx-layout-μ-loop
-approx-layout-part-past-end t c = search needs
-
-approx-layout-past-requires : (t : ℕ) → approx-layout-lts.Need-past-requires (approx-layout-given t) (approx-layout-at t) approx-layout.Post approx-layout-Inv-loop approx-layout-μ-loop
-approx-layout-past-requires t c κs = search needs
+approx-layout-behind-requires : (t : ℕ) → approx-layout-lts.Need-behind-requires (approx-layout-given t) (approx-layout-at t) approx-layout.Post approx-layout-Inv-loop approx-layout-μ-loop
+approx-layout-behind-requires t c κs = search needs
 
 approx-layout-saturating-add-requires : (t : ℕ) → approx-layout-lts.Need-saturating-add-requires (approx-layout-given t) (approx-layout-at t) approx-layout.Post approx-layout-Inv-loop approx-layout-μ-loop
 approx-layout-saturating-add-requires t c κs = search needs
 
 approx-layout-loop-less : (t : ℕ) → approx-layout-lts.Need-loop-less (approx-layout-given t) (approx-layout-at t) approx-layout.Post approx-layout-Inv-loop approx-layout-μ-loop
-approx-layout-loop-less t c = omega (arith, end-after (c .before .before .before .before .before .before .before .before .before .before .before .field-end .ensures) (c .before .before .before .before .before .before .before .before .before .before .before .before .before .loop-test .taken), end-within (c .before .before .before .before .before .before .before .before .before .before .before .field-end .ensures) (c .before .before .before .before .before .before .before .before .before .before .before .before .before .loop-test .taken), c .before .before .before .before .before .before .before .before .before .before .before .before .before .before .loop .inv .long)
+approx-layout-loop-less t c = omega (arith, end-after (c .before .before .before .before .before .before .field-end .ensures) (c .before .before .before .before .before .before .before .before .before .before .loop-test .taken), end-within (c .before .before .before .before .before .before .field-end .ensures) (c .before .before .before .before .before .before .before .before .before .before .loop-test .taken), c .before .before .before .before .before .before .before .before .before .before .before .loop .inv .part .long)
 
 approx-layout-loop-again : (t : ℕ) → approx-layout-lts.Need-loop-again (approx-layout-given t) (approx-layout-at t) approx-layout.Post approx-layout-Inv-loop approx-layout-μ-loop
-unfolding said
-approx-layout-loop-again t c = more (c .before .before .before .before .before .before .before .before .before .before .before .before .before .before .loop .inv) (c .before .before .before .before .before .before .before .before .before .before .before .before .before .loop-test .taken) (c .before .before .before .before .before .before .before .before .before .before .before .field-end .ensures) (node-more _ _ _ _ _ (c .before .before .before .before .before .before .before .before .approx-rigid-layout .ensures) (c .before .before .before .before .before .before .approx-flex-layout .ensures) (behind _ _ _ (c .before .before .before .before .before .before .approx-flex-layout .ensures) (omega (arith, end-after (c .before .before .before .before .before .before .before .before .before .before .before .field-end .ensures) (c .before .before .before .before .before .before .before .before .before .before .before .before .before .loop-test .taken))) (end-within (c .before .before .before .before .before .before .before .before .before .before .before .field-end .ensures) (c .before .before .before .before .before .before .before .before .before .before .before .before .before .loop-test .taken)) (c .before .before .before .before .before .before .approx-flex-layout .kept .0)) (c .before .past .ensures) (c .saturating-add .ensures)) (c .before .before .before .before .before .before .approx-flex-layout .kept .0)
+unfolding said said-stretch
+approx-layout-loop-again t c = nodes-turn (c .before .before .before .before .before .before .before .before .before .before .before .loop .inv) (c .before .before .before .before .before .before .before .before .before .before .loop-test .taken) (c .before .before .before .before .before .before .field-end .ensures) (c .before .before .before .before .before .before .before .before .entered .ensures) (c .before .before .before .before .approx-flex-layout .ensures) (c .before .before .before .before .approx-flex-layout .kept .0) (c .before .behind .ensures) (c .saturating-add .ensures)
+
+approx-layout-laid-out-requires : (t : ℕ) → approx-layout-lts.Need-laid-out-requires (approx-layout-given t) (approx-layout-at t) approx-layout.Post approx-layout-Inv-loop approx-layout-μ-loop
+approx-layout-laid-out-requires t c κs = search needs
 
 approx-layout-same-length : (t : ℕ) → approx-layout-lts.Need-same-length (approx-layout-given t) (approx-layout-at t) approx-layout.Post approx-layout-Inv-loop approx-layout-μ-loop
-approx-layout-same-length t c = c .before .loop .inv .long
+approx-layout-same-length t c = c .before .before .loop .inv .part .long
 
-approx-layout-returns-2 : (t : ℕ) → approx-layout-lts.Need-returns-2 (approx-layout-given t) (approx-layout-at t) approx-layout.Post approx-layout-Inv-loop approx-layout-μ-loop
-unfolding said fragment-in nodes-in
-approx-layout-returns-2 t c = ends (c .before .loop .inv) (c .loop-test .left)
+approx-layout-returns : (t : ℕ) → approx-layout-lts.Need-returns (approx-layout-given t) (approx-layout-at t) approx-layout.Post approx-layout-Inv-loop approx-layout-μ-loop
+unfolding said-stretch fragment-in
+approx-layout-returns t c = says (c .laid-out .ensures) (nodes-end (c .before .before .loop .inv) (c .before .loop-test .left))
 
 pub +approx-flex-layout+approx-fragments-layout+approx-layout-spec : {M : Type 1} → statement M
 +approx-flex-layout+approx-fragments-layout+approx-layout-spec =
@@ -410,28 +425,17 @@ pub +approx-flex-layout+approx-fragments-layout+approx-layout-spec : {M : Type 1
     approx-layout-Inv-loop
     approx-layout-μ-loop
     (approx-layout-inline-requires t)
-    (approx-layout-returns t)
-    (approx-layout-sub-ahead t)
-    (approx-layout-part-ahead-start t)
-    (approx-layout-part-ahead-end t)
-    (approx-layout-inline-requires-2 t)
-    (approx-layout-ahead-requires t)
     (approx-layout-loop-holds t)
+    (approx-layout-entered-requires t)
     (approx-layout-field-end-requires t)
-    (approx-layout-sub-approx-rigid-layout t)
-    (approx-layout-part-approx-rigid-layout-start t)
-    (approx-layout-part-approx-rigid-layout-end t)
-    (approx-layout-approx-rigid-layout-requires t)
     (approx-layout-sub-approx-flex-layout t)
     (approx-layout-part-approx-flex-layout-start t)
     (approx-layout-part-approx-flex-layout-end t)
     (approx-layout-approx-flex-layout-requires t)
-    (approx-layout-sub-past t)
-    (approx-layout-part-past-start t)
-    (approx-layout-part-past-end t)
-    (approx-layout-past-requires t)
+    (approx-layout-behind-requires t)
     (approx-layout-saturating-add-requires t)
     (approx-layout-loop-less t)
     (approx-layout-loop-again t)
+    (approx-layout-laid-out-requires t)
     (approx-layout-same-length t)
-    (approx-layout-returns-2 t)
+    (approx-layout-returns t)
