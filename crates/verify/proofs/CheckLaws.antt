@@ -9,35 +9,33 @@ use Rattle.rules.specs.Result.{Result, refused, accepted, _>>=_, _>>_, need, so
 use Rattle.rules.specs.Walk.{Fields, in-fragment, walk, check, complete, tags}
 use Rattle.rules.specs.Tree.{read, frag-of}
 use Rattle.rules.specs.Answers.{itself, tree, check-answer}
-use Rattle.verify.specs.declared.seen.Checked.{Checked}
-use Rattle.verify.specs.declared.seen.Checked.the-variants.{Sound, Faulty}
-use Rattle.verify.specs.Said.{checked, done}
-use Rattle.verify.specs.Walked.{fields-verdict}
-use Rattle.verify.proofs.WalkLaws.{refusal-is}
-
--- a verdict as an answer that counts nothing
-unfoldable as-answer : Result (Unit {0}) → Result ℕ
-as-answer (refused n p) = refused n p
-as-answer (accepted tt) = accepted 0
-
-by-walk : (r : Result (Fields ℕ)) → ((r >>= λ i. accepted (frag-of itself i)) >>= λ t. accepted 0) ≡ as-answer (done (r >>= λ i. sound (complete in-fragment (tags i)) 0))
-unfolding _>>=_ done sound complete as-answer
-by-walk (refused n p) = refl
-by-walk (accepted i) = refl
+use Rattle.verify.specs.declared.answer.Checked.{Checked}
+use Rattle.verify.specs.declared.answer.Checked.the-variants.{Sound, Faulty}
+use Rattle.verify.specs.Said.{checked}
+use Rattle.verify.specs.Walked.{fields-result, FieldsSaid}
+use Rattle.verify.proofs.SaidLaws.{counted, counted-refusal}
 
 pub too-long : (s : List ℕ) → 60_000 < length s → refused 1 0 ≡ check-answer s
 unfolding check-answer tree read check need _>>_ _>>=_
 too-long s h = simp (lt-leb (length s) 60_000 h)
 
-in-time : (s : List ℕ) → length s ≤ 60_000 → check-answer s ≡ as-answer (fields-verdict in-fragment 0 0 0 s)
-unfolding check-answer tree read check need _>>_ fields-verdict
+by-walk : (r : Result (Fields ℕ)) → ((r >>= λ i. accepted (frag-of itself i)) >>= λ t. accepted 0) ≡ counted (r >>= λ i. sound (complete in-fragment (tags i)) 0)
+unfolding _>>=_ sound complete counted
+by-walk (refused n p) = refl
+by-walk (accepted i) = refl
+
+in-time : (s : List ℕ) → length s ≤ 60_000 → check-answer s ≡ counted (fields-result in-fragment 0 0 0 s)
+unfolding check-answer tree read check need _>>_ fields-result
 in-time s h = simp (le-leb (length s) 60_000 h) (by-walk (walk itself (length s) in-fragment 0 0 0 s))
 
-module _ (s : List ℕ) (h : length s ≤ 60_000) {c : Checked} (e : checked c ≡ fields-verdict in-fragment 0 0 0 s) where
-  pub sound-file : c ≡ Sound → accepted 0 ≡ check-answer s
-  unfolding checked as-answer
-  sound-file w = sym (in-time s h ∙ ap as-answer (sym e ∙ ap checked w))
+module _ (s : List ℕ) (h : length s ≤ 60_000) {r : Checked} (F : FieldsSaid in-fragment 0 0 0 s r) where
+  by-check : {c : Checked} → r ≡ c → counted (checked c) ≡ check-answer s
+  by-check z = ap counted (sym (ap checked z) ∙ F .is) ∙ sym (in-time s h)
 
-  pub faulty-file : (r : Refusal) → c ≡ Faulty r → refusal r ≡ check-answer s
-  unfolding checked as-answer
-  faulty-file r w = refusal-is r ∙ sym (in-time s h ∙ ap as-answer (sym e ∙ ap checked w ∙ refusal-is r))
+  pub sound-file : r ≡ Sound → accepted 0 ≡ check-answer s
+  unfolding checked counted
+  sound-file z = by-check z
+
+  pub faulty-file : (x : Refusal) → r ≡ Faulty x → refusal x ≡ check-answer s
+  unfolding checked
+  faulty-file x z = sym (counted-refusal x) ∙ by-check z

@@ -9,13 +9,13 @@ use lib.ListN.{length, getD}
 use borrow.Author.Tests.{le-leb, lt-leb, ne-eqb, eq-eqb, eqb-true}
 use Rattle.rules.specs.Bytes.{has, number, number-from}
 use Rattle.rules.specs.Utf8.{utf8}
-use Rattle.rules.specs.Result.{refused, accepted, sound}
+use Rattle.rules.specs.Result.{Result, refused, accepted, _>>_, need, sound}
 use Rattle.rules.specs.Walk.{content, right-length, right-opacity, right-size}
 use Rattle.rules.proofs.Chains.{no-path}
 use Rattle.utf8.specs.Answer.{sound-if, utf8-answer}
 use Rattle.utf8.specs.declared.Utf8.{Utf8}
 use Rattle.utf8.specs.declared.Utf8.the-variants.{Sound, Broken}
-use Rattle.verify.specs.Contents.{text-fault, anchor-fault}
+use Rattle.verify.specs.Contents.{text-fault, anchor-fault, style-verdict}
 
 -- ---- texts and anchors
 
@@ -94,26 +94,9 @@ module _ (b : ℕ) where
   unfolding right-size
   size-high h = simp (lt-leb b 117 h)
 
--- ---- by the tag
+-- ---- a style's field, by its tag
 
 module _ (t : ℕ) (v : List ℕ) where
-  pub as-text-17 : t ≡ 17 → text-fault v ≡ content t v
-  unfolding content text-fault
-  as-text-17 e = simp (eq-eqb t 17 e)
-
-  pub as-text-7 : t ≡ 7 → text-fault v ≡ content t v
-  unfolding content text-fault
-  as-text-7 e = simp (ne-eqb t 17 (λ (z : t ≡ 17). omega arith), eq-eqb t 7 e)
-
-  pub as-anchor-18 : t ≡ 18 → anchor-fault v ≡ content t v
-  unfolding content anchor-fault
-  as-anchor-18 e = simp (ne-eqb t 17 (λ (z : t ≡ 17). omega arith), ne-eqb t 7 (λ (z : t ≡ 7). omega arith), eq-eqb t 18 e)
-
-  pub as-anchor-19 : t ≡ 19 → anchor-fault v ≡ content t v
-  unfolding content anchor-fault
-  as-anchor-19 e =
-      simp (ne-eqb t 17 (λ (z : t ≡ 17). omega arith), ne-eqb t 7 (λ (z : t ≡ 7). omega arith), ne-eqb t 18 (λ (z : t ≡ 18). omega arith), eq-eqb t 19 e)
-
   pub opacity-length : t ≡ 33 → right-length t (length v) ≡ true → length v ≡ 4
   unfolding right-length
   opacity-length e h = eqb-true (length v) 4 (rw e at h)
@@ -123,6 +106,15 @@ module _ (t : ℕ) (v : List ℕ) where
   size-length e h = eqb-true (length v) 1 (rw e at h)
 
   module _ (p : ℕ) where
+    pub length-wrong : right-length t (length v) ≡ false → refused 5 p ≡ style-verdict t v p
+    unfolding style-verdict need _>>_
+    length-wrong e = simp e
+
+    -- the length is right: the content answers
+    pub by-content : right-length t (length v) ≡ true → {r : Result (Unit {0})} → r ≡ sound (content t v) p → r ≡ style-verdict t v p
+    unfolding style-verdict need _>>_
+    by-content l e = simp l e
+
     pub opacity-sound : t ≡ 33 → right-opacity (number v) ≡ true → accepted tt ≡ sound (content t v) p
     unfolding content sound
     opacity-sound e h = rw e (simp h)
@@ -139,6 +131,14 @@ module _ (t : ℕ) (v : List ℕ) where
     unfolding content sound
     size-faulty e l h = rw e (simp (← (number-of-one v l), h))
 
-    pub no-content : (t ≡ 17 → ⊥) → (t ≡ 7 → ⊥) → (t ≡ 18 → ⊥) → (t ≡ 19 → ⊥) → (t ≡ 33 → ⊥) → (t ≡ 35 → ⊥) → accepted tt ≡ sound (content t v) p
+    pub no-content : 32 ≤ t → (t ≡ 33 → ⊥) → (t ≡ 35 → ⊥) → accepted tt ≡ sound (content t v) p
     unfolding content sound
-    no-content a b c d e f = simp (ne-eqb t 17 a, ne-eqb t 7 b, ne-eqb t 18 c, ne-eqb t 19 d, ne-eqb t 33 e, ne-eqb t 35 f)
+    no-content l e f =
+        simp (
+          ne-eqb t 17 (λ (z : t ≡ 17). omega arith),
+          ne-eqb t 7 (λ (z : t ≡ 7). omega arith),
+          ne-eqb t 18 (λ (z : t ≡ 18). omega arith),
+          ne-eqb t 19 (λ (z : t ≡ 19). omega arith),
+          ne-eqb t 33 e,
+          ne-eqb t 35 f,
+        )

@@ -1,10 +1,11 @@
 -- Laws that the proofs cite.
 pub mod TagLaws
+pub mod SaidLaws
+pub mod ContentLaws
 pub mod SeenLaws
 pub mod FrontLaws
+pub mod ValueLaws
 pub mod WalkLaws
-pub mod ContentLaws
-pub mod DepthLaws
 pub mod LoopLaws
 pub mod CheckLaws
 pub mod Verdicts

@@ -1,49 +1,33 @@
--- What is missing, by what was seen; and the record of the tags seen, one tag at a time.
-use mathlib.Core.Path.{_≡_, refl, sym, _∙_, ap, ap₂}
+-- What the last tag, or the record of those of a 16, says of the tags so far; and what is wrong at the end by it.
+use mathlib.Core.Path.{_≡_, refl, sym, _∙_, ap}
 use mathlib.Core.List.{List, [], _∷_, _++_}
 use mathlib.Core.Bool.{Bool, true, false, _&&_, _||_, not}
 use Prim.Native.Nat.{ℕ}
 use lib.Dec.{eqb}
+use borrow.Author.Tests.{ne-eqb, eqb-true, eqb-false}
 use Rattle.rules.specs.Bytes.{if_then_else_, has}
 use Rattle.rules.specs.Result.{refused, accepted, sound}
-use Rattle.rules.specs.Walk.{Holder, in-fragment, in-block, in-text, in-anchor, in-styles, complete}
+use Rattle.rules.specs.Walk.{in-text, in-anchor, in-styles, complete}
 use Rattle.verify.specs.declared.seen.Seen.{Seen}
-use Rattle.verify.specs.Seeing.{nothing-seen, seen-with, Sees, complete-seen}
+use Rattle.verify.specs.Seeing.{nothing-seen, seen-with, complete-seen}
+use Rattle.verify.proofs.TagLaws.{Allowed, no-second-text, later-tag, name-tag, by-test}
+
+-- ---- the end of a 16, by the record
 
 module _ (s : Seen) (p : ℕ) where
-  pub no-colour : (s .opacity && not (s .colour)) ≡ true → refused 8 p ≡ sound (complete-seen in-styles s) p
+  pub no-colour : (s .opacity && not (s .colour)) ≡ true → refused 8 p ≡ sound (complete-seen s) p
   unfolding sound complete-seen
   no-colour e = simp e
 
-  pub two-scripts : (s .opacity && not (s .colour)) ≡ false → (s .subscript && s .superscript) ≡ true → refused 8 p ≡ sound (complete-seen in-styles s) p
+  pub two-scripts : (s .opacity && not (s .colour)) ≡ false → (s .subscript && s .superscript) ≡ true → refused 8 p ≡ sound (complete-seen s) p
   unfolding sound complete-seen
   two-scripts e f = simp (e, f)
 
-  pub whole-style : (s .opacity && not (s .colour)) ≡ false → (s .subscript && s .superscript) ≡ false → accepted tt ≡ sound (complete-seen in-styles s) p
+  pub whole-style : (s .opacity && not (s .colour)) ≡ false → (s .subscript && s .superscript) ≡ false → accepted tt ≡ sound (complete-seen s) p
   unfolding sound complete-seen
   whole-style e f = simp (e, f)
 
-  pub has-a-text : s .text ≡ true → accepted tt ≡ sound (complete-seen in-text s) p
-  unfolding sound complete-seen
-  has-a-text e = simp e
-
-  pub no-text : s .text ≡ false → refused 5 p ≡ sound (complete-seen in-text s) p
-  unfolding sound complete-seen
-  no-text e = simp e
-
-  pub has-a-name : s .name ≡ true → accepted tt ≡ sound (complete-seen in-anchor s) p
-  unfolding sound complete-seen
-  has-a-name e = simp e
-
-  pub no-name : s .name ≡ false → refused 5 p ≡ sound (complete-seen in-anchor s) p
-  unfolding sound complete-seen
-  no-name e = simp e
-
--- ---- the tags seen
-
-pub starts : Sees [] nothing-seen
-unfolding nothing-seen has
-starts = record { sees-text = refl; sees-name = refl; sees-colour = refl; sees-opacity = refl; sees-subscript = refl; sees-superscript = refl }
+-- ---- the tags so far
 
 has-last : (n t : ℕ) (ts : List ℕ) → has n (ts ++ (t ∷ [])) ≡ (has n ts || eqb n t)
 unfolding has
@@ -58,19 +42,25 @@ has-last n t (x ∷ ts) = ap (λ (b : Bool). eqb n x || b) (has-last n t ts) ∙
     or-assoc true b c = refl
     or-assoc false b c = refl
 
-either-way : (a b c d : Bool) → (((a || b) || c) || d) ≡ ((a || c) || (b || d))
-either-way true b c d = refl
-either-way false true true d = refl
-either-way false true false d = refl
-either-way false false true d = refl
-either-way false false false d = refl
+-- nothing is asked of the tags
+abbrev pub Any : List ℕ → Type 0
+Any ts = Unit {0}
 
-pub more : {ts : List ℕ} {s : Seen} (t : ℕ) → Sees ts s → Sees (ts ++ (t ∷ [])) (seen-with s t)
+-- in a 16: the record says of the tags what it has to
+pub record Sees (s : Seen) (ts : List ℕ) : Type 0 where
+  pub sees-colour : s .colour ≡ has 32 ts
+  pub sees-opacity : s .opacity ≡ has 33 ts
+  pub sees-subscript : s .subscript ≡ has 36 ts
+  pub sees-superscript : s .superscript ≡ has 37 ts
+
+pub sees-none : Sees nothing-seen []
+unfolding nothing-seen has
+sees-none = record { sees-colour = refl; sees-opacity = refl; sees-subscript = refl; sees-superscript = refl }
+
+pub sees-more : {s : Seen} (t : ℕ) {ts : List ℕ} → Sees s ts → Sees (seen-with s t) (ts ++ (t ∷ []))
 unfolding seen-with
-more {ts} {s} t S =
+sees-more {s} t {ts} S =
     record {
-      sees-text = one 17 (S .sees-text);
-      sees-name = ap (λ (b : Bool). (b || eqb 18 t) || eqb 19 t) (S .sees-name) ∙ either-way (has 18 ts) (has 19 ts) (eqb 18 t) (eqb 19 t) ∙ sym (ap₂ _||_ (has-last 18 t ts) (has-last 19 t ts));
       sees-colour = one 32 (S .sees-colour);
       sees-opacity = one 33 (S .sees-opacity);
       sees-subscript = one 36 (S .sees-subscript);
@@ -80,10 +70,67 @@ more {ts} {s} t S =
     one : (n : ℕ) {b : Bool} → b ≡ has n ts → (b || eqb n t) ≡ has n (ts ++ (t ∷ []))
     one n e = ap (λ (b : Bool). b || eqb n t) e ∙ sym (has-last n t ts)
 
-pub complete-by : {ts : List ℕ} {s : Seen} (h : Holder) → Sees ts s → complete-seen h s ≡ complete h ts
+pub sees-all : {s : Seen} {ts : List ℕ} → Sees s ts → complete-seen s ≡ complete in-styles ts
 unfolding complete-seen complete
-complete-by in-fragment S = refl
-complete-by in-block S = refl
-complete-by in-text S = ap (λ (b : Bool). if b then 0 else 5) (S .sees-text)
-complete-by in-anchor S = ap (λ (b : Bool). if b then 0 else 5) (S .sees-name)
-complete-by in-styles S = λ i. if (S .sees-opacity i && not (S .sees-colour i)) || (S .sees-subscript i && S .sees-superscript i) then 8 else 0
+sees-all S = λ i. if (S .sees-opacity i && not (S .sees-colour i)) || (S .sees-subscript i && S .sees-superscript i) then 8 else 0
+
+-- in a text: a 17 was seen if the last is one, since nothing comes after it
+pub record EndsText (before : ℕ) (ts : List ℕ) : Type 0 where
+  pub says : has 17 ts ≡ eqb 17 before
+
+pub no-text : EndsText 0 []
+unfolding has
+no-text = record { says = refl }
+
+pub text-more : {before t : ℕ} {ts : List ℕ} → EndsText before ts → Allowed in-text before t → EndsText t (ts ++ (t ∷ []))
+text-more {before} {t} {ts} E A =
+    let none : eqb 17 before ≡ false = ne-eqb 17 before (λ (q : 17 ≡ before). no-second-text A (sym q)) in
+    record { says = has-last 17 t ts ∙ ap (λ (b : Bool). b || eqb 17 t) (E .says ∙ none) }
+
+module _ {before : ℕ} {ts : List ℕ} (E : EndsText before ts) (p : ℕ) where
+  pub text-ends : before ≡ 17 → accepted tt ≡ sound (complete in-text ts) p
+  unfolding sound complete
+  text-ends e = simp (E .says, e)
+
+  pub text-lacks : (before ≡ 17 → ⊥) → refused 5 p ≡ sound (complete in-text ts) p
+  unfolding sound complete
+  text-lacks n = simp (E .says, ne-eqb 17 before (λ (q : 17 ≡ before). n (sym q)))
+
+-- in an anchor: a name was seen unless nothing was, since it comes first
+pub record HasName (before : ℕ) (ts : List ℕ) : Type 0 where
+  pub says : (has 18 ts || has 19 ts) ≡ not (eqb before 0)
+
+pub no-name : HasName 0 []
+unfolding has
+no-name = record { says = refl }
+
+both-last : (a b c d : Bool) → ((a || c) || (b || d)) ≡ ((a || b) || (c || d))
+both-last true b c d = refl
+both-last false true true d = refl
+both-last false true false d = refl
+both-last false false true d = refl
+both-last false false false d = refl
+
+pub name-more : {before t : ℕ} {ts : List ℕ} → HasName before ts → Allowed in-anchor before t → HasName t (ts ++ (t ∷ []))
+name-more {before} {t} {ts} E A =
+    record {
+      says =
+          (λ i. has-last 18 t ts i || has-last 19 t ts i) ∙ both-last (has 18 ts) (has 19 ts) (eqb 18 t) (eqb 19 t)
+          ∙ ap (λ (b : Bool). b || (eqb 18 t || eqb 19 t)) (E .says) ∙ by-test (eqb before 0) first later;
+    }
+  where
+    first : eqb before 0 ≡ true → (not (eqb before 0) || (eqb 18 t || eqb 19 t)) ≡ not (eqb t 0)
+    first q =
+        by-test (eqb t 18) (λ x. rw (q, eqb-true t 18 x)) (λ x. rw (q, name-tag A (eqb-true before 0 q) (eqb-false t 18 x)))
+
+    later : eqb before 0 ≡ false → (not (eqb before 0) || (eqb 18 t || eqb 19 t)) ≡ not (eqb t 0)
+    later q = rw (q, later-tag A (eqb-false before 0 q))
+
+module _ {before : ℕ} {ts : List ℕ} (E : HasName before ts) (p : ℕ) where
+  pub name-lacks : before ≡ 0 → refused 5 p ≡ sound (complete in-anchor ts) p
+  unfolding sound complete
+  name-lacks e = simp (E .says, e)
+
+  pub name-there : (before ≡ 0 → ⊥) → accepted tt ≡ sound (complete in-anchor ts) p
+  unfolding sound complete
+  name-there n = simp (E .says, ne-eqb before 0 n)

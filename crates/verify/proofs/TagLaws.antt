@@ -1,17 +1,13 @@
 -- The table of fields, where a tag is none of those that a branch has tested.
-use mathlib.Core.Path.{_≡_, refl, sym}
-use mathlib.Core.Option.{none}
+use mathlib.Core.Path.{_≡_, refl, sym, _∙_}
 use mathlib.Core.Bool.{Bool, true, false, _&&_, _||_}
 use Prim.Native.Nat.{ℕ, _≤_, _<_}
 use native.Mathlib.Omega.{arith}
 use lib.Dec.{leb, ltb, eqb}
-use borrow.Author.Tests.{le-leb, lt-leb, ne-eqb, eq-eqb, eqb-false}
-use Rattle.rules.specs.Bytes.{if_then_else_}
-use Rattle.rules.specs.Walk.{holds, allowed, right-length, is-block, in-fragment, in-text, in-anchor, in-styles}
-
-and-false : (a : Bool) → (a && false) ≡ false
-and-false true = refl
-and-false false = refl
+use borrow.Author.Tests.{le-leb, lt-leb, ne-eqb, eq-eqb, leb-true, eqb-true, eqb-false}
+use Rattle.rules.specs.Bytes.{if_then_else_, within}
+use Rattle.rules.specs.Walk.{Holder, allowed, right-length, is-block, in-fragment, in-block, in-text, in-anchor, in-styles}
+use Rattle.rules.proofs.Chains.{no-path}
 
 first-of : (a b : Bool) → a ≡ ((a && true) || (b && false))
 first-of true b = refl
@@ -31,10 +27,6 @@ neither-of false true = refl
 neither-of false false = refl
 
 module _ (t : ℕ) where
-  pub holds-none : (t ≡ 1 → ⊥) → (t ≡ 2 → ⊥) → (t ≡ 3 → ⊥) → (t ≡ 4 → ⊥) → (t ≡ 8 → ⊥) → (t ≡ 16 → ⊥) → none ≡ holds t
-  unfolding holds
-  holds-none a b c d e f = simp (ne-eqb t 1 a, ne-eqb t 2 b, ne-eqb t 3 c, ne-eqb t 4 d, ne-eqb t 8 e, ne-eqb t 16 f)
-
   pub other-block : (t ≡ 3 → ⊥) → eqb t 4 ≡ is-block t
   unfolding is-block
   other-block a = simp (ne-eqb t 3 a)
@@ -85,38 +77,11 @@ module _ (t : ℕ) where
     unfolding allowed
     styles-rise h g = simp (le-leb 32 t h, le-leb t 38 g)
 
-  -- fixed lengths
+  -- fixed lengths of a style's fields
   module _ (n : ℕ) where
-    pub length-low : (t ≡ 5 → ⊥) → (t ≡ 6 → ⊥) → t < 32 → true ≡ right-length t n
-    unfolding right-length
-    length-low a b h =
-        simp (
-          ne-eqb t 5 a,
-          ne-eqb t 6 b,
-          lt-leb 36 t (omega arith),
-          ne-eqb t 32 (λ (z : t ≡ 32). omega arith),
-          ne-eqb t 33 (λ (z : t ≡ 33). omega arith),
-          ne-eqb t 34 (λ (z : t ≡ 34). omega arith),
-          ne-eqb t 35 (λ (z : t ≡ 35). omega arith),
-        )
-
-    pub length-flag : 36 ≤ t → t ≤ 38 → eqb n 0 ≡ right-length t n
+    pub length-flag : 35 < t → t ≤ 38 → eqb n 0 ≡ right-length t n
     unfolding right-length
     length-flag h g = simp (ne-eqb t 5 (λ (z : t ≡ 5). omega arith), ne-eqb t 6 (λ (z : t ≡ 6). omega arith), le-leb 36 t h, le-leb t 38 g)
-
-    pub length-high : 38 < t → true ≡ right-length t n
-    unfolding right-length
-    length-high h =
-        simp (
-          ne-eqb t 5 (λ (z : t ≡ 5). omega arith),
-          ne-eqb t 6 (λ (z : t ≡ 6). omega arith),
-          le-leb 36 t (omega arith),
-          lt-leb t 38 h,
-          ne-eqb t 32 (λ (z : t ≡ 32). omega arith),
-          ne-eqb t 33 (λ (z : t ≡ 33). omega arith),
-          ne-eqb t 34 (λ (z : t ≡ 34). omega arith),
-          ne-eqb t 35 (λ (z : t ≡ 35). omega arith),
-        )
 
     pub length-one : (t ≡ 32 → ⊥) → (t ≡ 33 → ⊥) → 32 ≤ t → t ≤ 35 → eqb n 1 ≡ right-length t n
     unfolding right-length
@@ -128,3 +93,50 @@ module _ (t : ℕ) where
         last true y p q = refl
         last false true p q = refl
         last false false p q = absurd (omega (arith, eqb-false t 34 (sym p), eqb-false t 35 (sym q)))
+
+-- ---- the tags that are allowed
+
+-- the tag t is allowed in the holder h, after the tag before
+pub record Allowed (h : Holder) (before t : ℕ) : Type 0 where
+  pub yes : allowed h before t ≡ true
+
+pub by-test : {P : Type 0} (b : Bool) → (b ≡ true → P) → (b ≡ false → P) → P
+by-test true f g = f refl
+by-test false f g = g refl
+
+pub never : {P : Type 0} → true ≡ false → P
+never e = no-path (cc)
+
+both-hold : (a b : Bool) → (a && b) ≡ true → (a ≡ true) × (b ≡ true)
+both-hold true true e = (refl, refl)
+both-hold true false e = never (sym e)
+both-hold false b e = never (sym e)
+
+module _ {before t : ℕ} where
+  pub fragment-tags : Allowed in-fragment before t → (1 ≤ t) × (t ≤ 7)
+  unfolding allowed
+  fragment-tags A = let (a, b) = both-hold (leb 1 t) (leb t 7) (A .yes) in (leb-true 1 t a, leb-true t 7 b)
+
+  pub block-tag : Allowed in-block before t → t ≡ 8
+  unfolding allowed
+  block-tag A = eqb-true t 8 (A .yes)
+
+  pub styles-tags : Allowed in-styles before t → (32 ≤ t) × (t ≤ 38)
+  unfolding allowed
+  styles-tags A =
+      let (w, r) = both-hold (within 32 38 t) (ltb before t) (A .yes) in
+      let (a, b) = both-hold (leb 32 t) (leb t 38) w in
+      (leb-true 32 t a, leb-true t 38 b)
+
+  pub text-tag : Allowed in-text before t → (t ≡ 16 → ⊥) → t ≡ 17
+  text-tag A n = by-test (eqb t 17) (eqb-true t 17) (λ q. never (sym (A .yes) ∙ sym (text-other t before n (eqb-false t 17 q))))
+
+  pub no-second-text : Allowed in-text before t → before ≡ 17 → ⊥
+  unfolding allowed
+  no-second-text A e = never (sym (rw e at (A .yes)))
+
+  pub later-tag : Allowed in-anchor before t → (before ≡ 0 → ⊥) → t ≡ 1
+  later-tag A n = eqb-true t 1 (anchor-later t before n ∙ A .yes)
+
+  pub name-tag : Allowed in-anchor before t → before ≡ 0 → (t ≡ 18 → ⊥) → t ≡ 19
+  name-tag A z n = eqb-true t 19 (anchor-19 t before z n ∙ A .yes)

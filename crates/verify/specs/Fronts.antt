@@ -1,31 +1,25 @@
--- The field at the front, as the code answers it.
+-- The header of a field: three bytes there, the tag, the length fits.
 use mathlib.Core.Path.{_≡_}
 use mathlib.Core.List.{List}
-use mathlib.Core.Bool.{Bool, true, false, _&&_}
-use Prim.Native.Nat.{ℕ, _-_}
+use mathlib.Core.Bool.{Bool, true, false}
+use Prim.Native.Nat.{ℕ, _+_}
 use lib.Dec.{leb}
-use Rattle.rules.specs.Walk.{Holder, allowed, right-length, is-block}
-use Rattle.rules.specs.declared.Refusal.the-variants.{Cut, WrongTag, WrongLength, TooDeep}
-use Rattle.fields.specs.FieldAt.{field-at}
-use Rattle.fields.specs.declared.Field as F
-use Rattle.verify.specs.declared.front.Front.{Front}
-use Rattle.verify.specs.declared.front.Front.the-variants.{Field, Faulty}
+use lib.ListN.{length}
+use Rattle.rules.specs.Result.{Result, refused, need}
+use Rattle.fields.specs.FieldAt.{length-at}
+use Rattle.verify.specs.declared.answer.Checked.{Checked}
+use Rattle.verify.specs.Said.{checked}
 
-unfoldable pub past-answer : (right-tag : Bool) → (place : ℕ) → Front
-past-answer true p = Faulty (Cut p)
-past-answer false p = Faulty (WrongTag p)
+-- where the length passes the end, the tag answers first
+unfoldable pub past-answer : (right-tag : Bool) → (place : ℕ) → Result (Unit {0})
+past-answer true p = refused 3 p
+past-answer false p = refused 4 p
 
--- the first of the three tests that fails, or the field
-unfoldable pub header-answer : (right-tag length-right deep : Bool) → (place : ℕ) → Front → Front
-header-answer false l d p field = Faulty (WrongTag p)
-header-answer true false d p field = Faulty (WrongLength p)
-header-answer true true true p field = Faulty (TooDeep p)
-header-answer true true false p field = field
+unfoldable pub front-answer : (three fits right-tag : Bool) → (place : ℕ) → Result (Unit {0})
+front-answer false fits a p = refused 3 p
+front-answer true false a p = past-answer a p
+front-answer true true a p = need a 4 p
 
-unfoldable pub front-answer : Holder → (d before place : ℕ) → F.Field → Front
-front-answer h d before p F.the-variants.Cut = Faulty (Cut p)
-front-answer h d before p (F.the-variants.Past t) = past-answer (allowed h before t) p
-front-answer h d before p (F.the-variants.Whole t f e) = header-answer (allowed h before t) (right-length t (e - f)) (is-block t && leb 32 d) p (Field t f e)
-
-pub record Fronted (s : List ℕ) (at : ℕ) (h : Holder) (d before place : ℕ) (r : Front) : Type 0 where
-  pub is : r ≡ front-answer h d before place (field-at s at)
+-- the header at `at` of s, whose tag is allowed there if a
+pub record Fronted (s : List ℕ) (at : ℕ) (a : Bool) (place : ℕ) (r : Checked) : Type 0 where
+  pub is : checked r ≡ front-answer (leb (at + 3) (length s)) (leb (at + 3 + length-at s at) (length s)) a place

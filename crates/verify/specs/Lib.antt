@@ -1,6 +1,6 @@
--- What the file check's own types say in the rules' words, and what its functions answer.
+-- What the file check's functions answer.
 pub mod Said
 pub mod Seeing
+pub mod Contents
 pub mod Fronts
 pub mod Walked
-pub mod Contents

@@ -1,21 +1,22 @@
-// The content of a field whose value is bytes: UTF-8, quotes, opacities, sizes.
-use crate::seen::Checked;
+// The content of a field whose value is bytes: UTF-8, quotes, and the fields of a style with their fixed lengths.
+use crate::answer::Checked;
+use crate::tables::right_style_length;
 use fields::wide;
 use rules::Refusal;
 use utf8::Utf8;
 use utf8::check_utf8;
 use utf8::has_quote;
 ghost use mathlib.Core.Path.{_≡_};
-ghost use mathlib.Core.Bool.{true};
-ghost use Prim.Native.Nat.{_<_};
+ghost use Prim.Native.Nat.{_≤_};
 ghost use lib.ListN.{length};
 ghost use Rattle.rules.specs.Bytes.{number};
 ghost use Rattle.rules.specs.Result.{sound};
-ghost use Rattle.rules.specs.Walk.{content, right-length, right-opacity, right-size};
+ghost use Rattle.rules.specs.Walk.{right-opacity, right-size};
 ghost use Rattle.verify.specs.Said.{checked};
-ghost use Rattle.verify.specs.Contents.{text-fault, anchor-fault};
+ghost use Rattle.verify.specs.Contents.{text-fault, anchor-fault, style-verdict};
 
-fn check_text(v: &[u8], place: usize) -> Checked
+// The bytes of a text at `place`.
+pub fn check_text(v: &[u8], place: usize) -> Checked
     ensures { λ r. ⌜ checked r ≡ sound (text-fault (now (v .entry))) place ⌝ }
 {
     let Utf8::Sound = check_utf8(v) else {
@@ -24,8 +25,8 @@ fn check_text(v: &[u8], place: usize) -> Checked
     Checked::Sound
 }
 
-// UTF-8 comes before the quote.
-fn check_anchor(v: &[u8], place: usize) -> Checked
+// The bytes of an anchor. UTF-8 comes before the quote.
+pub fn check_anchor(v: &[u8], place: usize) -> Checked
     ensures { λ r. ⌜ checked r ≡ sound (anchor-fault (now (v .entry))) place ⌝ }
 {
     let Utf8::Sound = check_utf8(v) else {
@@ -68,22 +69,13 @@ fn right_size(b: usize) -> bool
     128 <= b
 }
 
-// The bytes v of a field of the tag, whose length is right for it.
-pub fn check_content(v: &[u8], tag: u8, place: usize) -> Checked
-    requires { ⌜ right-length tag (length (now v)) ≡ true ⌝ }
-    ensures { λ r. ⌜ checked r ≡ sound (content tag (now (v .entry))) place ⌝ }
+// The value of a style's field of the tag: its length, then what it says.
+pub fn check_style(v: &[u8], tag: u8, place: usize) -> Checked
+    requires { ⌜ (32 ≤ tag) × (tag ≤ 38) ⌝ }
+    ensures { λ r. ⌜ checked r ≡ style-verdict tag (now (v .entry)) place ⌝ }
 {
-    if tag == 17 {
-        return check_text(v, place);
-    }
-    if tag == 7 {
-        return check_text(v, place);
-    }
-    if tag == 18 {
-        return check_anchor(v, place);
-    }
-    if tag == 19 {
-        return check_anchor(v, place);
+    if !right_style_length(tag, v.len()) {
+        return Checked::Faulty(Refusal::WrongLength(place));
     }
     if tag == 33 {
         if right_opacity(word(v)) {

@@ -1,6 +1,8 @@
 // The file check: the walk over a file's fields from the front, and the first fault with its place.
+pub mod answer;
 pub mod content;
 pub mod front;
+pub mod inner;
 pub mod seen;
 pub mod tables;
 pub mod walk;

@@ -1,84 +1,105 @@
-// The walk: a value's fields from the front, each with its own value, and what they have together.
-use crate::content::check_content;
-use crate::front::Front;
-use crate::front::front_field;
-use crate::seen::Checked;
-use crate::seen::Seen;
-use crate::seen::complete;
-use crate::tables::Holder;
-use crate::tables::Value;
-use crate::tables::holds;
+// The walk: the fields of a fragment and of a block, and the whole file.
+use crate::answer::Checked;
+use crate::content::check_text;
+use crate::front::MAX_DEPTH;
+use crate::front::check_front;
+use crate::front::field_end;
+use crate::inner::check_anchor_fields;
+use crate::inner::check_text_fields;
+use crate::tables::in_fragment;
 use crate::tables::is_block;
 use rules::Answer;
 use rules::Refusal;
 ghost use mathlib.Core.Path.{_≡_};
-ghost use mathlib.Core.Bool.{_&&_, false};
-ghost use Prim.Native.Nat.{_+_, _≤_};
-ghost use lib.Dec.{leb};
-ghost use Rattle.rules.specs.Walk.{is-block};
-ghost use Rattle.rules.specs.Good.{depth-in};
+ghost use Prim.Native.Nat.{ℕ};
+ghost use Rattle.rules.specs.Walk.{in-fragment, in-block};
 ghost use Rattle.rules.specs.Answers.{check-answer};
 ghost use Rattle.rules.specs.Result.{said};
-ghost use Rattle.verify.specs.Said.{holder, checked, handed-on};
-ghost use Rattle.verify.specs.Walked.{fields-verdict, value-verdict, Room, Stands};
+ghost use Rattle.verify.specs.Walked.{FieldSaid, FieldsSaid, Stands, Room, Leaf, ValueSaid};
 
-// A front's refusal as a check's.
-fn hand_on(f: Front) -> Checked
-    ensures { λ r. ⌜ r ≡ handed-on f ⌝ }
+// The value v of a node that is no block; it stands at `base`.
+fn check_leaf(v: &[u8], tag: u8, base: usize, place: usize) -> Checked
+    requires { ⌜ Leaf tag base place (now v) ⌝ }
+    ensures { λ r. ⌜ ((d : ℕ) → ValueSaid tag d place (now (v .entry)) r) ⌝ }
 {
-    match f {
-        Front::Field {
-            tag: _,
-            from: _,
-            to: _,
-        } => Checked::Sound,
-        Front::Faulty(r) => Checked::Faulty(r),
+    if tag == 1 {
+        return check_text_fields(v, base, place);
     }
+    if tag == 2 {
+        return check_anchor_fields(v, base, place);
+    }
+    if tag == 7 {
+        return check_text(v, place);
+    }
+    if v.len() != 0 {
+        return Checked::Faulty(Refusal::WrongLength(place));
+    }
+    Checked::Sound
 }
 
-// The blocks around what stands in a field.
-fn depth_in(tag: u8, depth: usize) -> usize
-    requires { ⌜ (depth ≤ 32) × ((is-block tag && leb 32 depth) ≡ false) ⌝ }
-    ensures { λ r. ⌜ (r ≡ depth-in tag depth) × (r ≤ 32) ⌝ }
+// The node at `at` of a fragment, inside `depth` blocks.
+fn check_node(s: &[u8], at: usize, depth: usize, place: usize) -> Checked
+    requires { ⌜ Stands (now s) at place ⌝ }
+    ensures { λ r. ⌜ FieldSaid in-fragment depth 0 place (now (s .entry)) at r ⌝ }
 {
-    if is_block(tag) {
-        return depth + 1;
-    }
-    depth
-}
-
-// The value of a field of the tag at `place`, inside `depth` blocks.
-fn check_value(v: &[u8], tag: u8, depth: usize, place: usize) -> Checked
-    requires { ⌜ Stands tag depth place (now v) ⌝ }
-    ensures { λ r. ⌜ checked r ≡ value-verdict tag depth place (now (v .entry)) ⌝ }
-{
-    let k = holds(tag);
-    let Value::Fields(h) = k else {
-        return check_content(v, tag, place);
+    let tag = s[at];
+    let f = check_front(s, at, in_fragment(tag), place);
+    let Checked::Sound = f else {
+        return f;
     };
-    check_fields(v, h, depth_in(tag, depth), place + 3, place)
+    let v = &s[at + 3..field_end(s, at)];
+    let base = place + 3;
+    if !is_block(tag) {
+        return check_leaf(v, tag, base, place);
+    }
+    if MAX_DEPTH <= depth {
+        return Checked::Faulty(Refusal::TooDeep(place));
+    }
+    check_block(v, depth + 1, base)
 }
 
-// The fields s of the holder, inside `depth` blocks; they stand at `base`, and the field that holds them at `place`.
-fn check_fields(s: &[u8], h: Holder, depth: usize, base: usize, place: usize) -> Checked
-    requires { ⌜ Room base (now s) × (depth ≤ 32) ⌝ }
-    ensures { λ r. ⌜ checked r ≡ fields-verdict (holder h) depth base place (now (s .entry)) ⌝ }
+// The nodes s of a fragment, inside `depth` blocks; they stand at `base`.
+fn check_fragment(s: &[u8], depth: usize, base: usize) -> Checked
+    requires { ⌜ Room base (now s) ⌝ }
+    ensures { λ r. ⌜ FieldsSaid in-fragment depth base 0 (now (s .entry)) r ⌝ }
 {
     let mut at = 0;
-    let mut seen = Seen::nothing();
     while at < s.len() {
-        let f = front_field(s, at, h, depth, seen.before, base);
-        let Front::Field { tag, from, to } = f else {
-            return hand_on(f);
+        let f = check_node(s, at, depth, base + at);
+        let Checked::Sound = f else {
+            return f;
         };
-        let c = check_value(&s[from..to], tag, depth, base + at);
-        let Checked::Sound = c else {
-            return c;
-        };
-        seen = seen.with(tag);
-        at = to;
+        at = field_end(s, at);
     }
-    complete(h, seen, place)
+    Checked::Sound
+}
+
+// The fragment at `at` of a block, inside `depth` blocks.
+fn check_piece(s: &[u8], at: usize, depth: usize, place: usize) -> Checked
+    requires { ⌜ Stands (now s) at place ⌝ }
+    ensures { λ r. ⌜ FieldSaid in-block depth 0 place (now (s .entry)) at r ⌝ }
+{
+    let f = check_front(s, at, s[at] == 8, place);
+    let Checked::Sound = f else {
+        return f;
+    };
+    check_fragment(&s[at + 3..field_end(s, at)], depth, place + 3)
+}
+
+// The fragments s of a block, inside `depth` blocks with it; they stand at `base`.
+fn check_block(s: &[u8], depth: usize, base: usize) -> Checked
+    requires { ⌜ Room base (now s) ⌝ }
+    ensures { λ r. ⌜ FieldsSaid in-block depth base 0 (now (s .entry)) r ⌝ }
+{
+    let mut at = 0;
+    while at < s.len() {
+        let f = check_piece(s, at, depth, base + at);
+        let Checked::Sound = f else {
+            return f;
+        };
+        at = field_end(s, at);
+    }
+    Checked::Sound
 }
 
 // The most bytes of a file.
@@ -91,7 +112,7 @@ pub fn check(file: &[u8]) -> Answer
     if MAX_FILE < file.len() {
         return Answer::Refused(Refusal::TooLong);
     }
-    let c = check_fields(file, Holder::Fragment, 0, 0, 0);
+    let c = check_fragment(file, 0, 0);
     match c {
         Checked::Sound => Answer::Done(0),
         Checked::Faulty(r) => Answer::Refused(r),

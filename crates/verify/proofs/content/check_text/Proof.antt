@@ -1,6 +1,6 @@
--- `verify::content::check_text` meets its contract: by the answer of the UTF-8 check.
-use borrow.Author.Needs.{needs}
+-- `verify::content::check_text` meets its contract: by the UTF-8 check.
 use Rattle.verify.proofs.ContentLaws.{broken-text, sound-text}
+use borrow.Author.Needs.{needs}
 use Rattle.rules.specs.Result.{refusal}
 use Rattle.verify.specs.Said.{checked}
 use Rattle.verify.proofs.content.check_text.Statement.{statement}
@@ -24,4 +24,6 @@ unfolding checked
 returns-2 c = sound-text _ _ (c .before .before .check-utf8 .ensures) (c .enum-told .given .1)
 
 pub check-text-spec : {M : Type 1} → statement M
-check-text-spec = tie.close (tie.spec check-utf8-requires enum-told enum-told-2 returns returns-2)
+check-text-spec =
+    tie.close
+    (tie.spec check-utf8-requires enum-told enum-told-2 returns returns-2)

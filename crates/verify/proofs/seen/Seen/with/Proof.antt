@@ -16,28 +16,9 @@ either-requires-3 c κs = search needs
 either-requires-4 : tie.Need-either-requires-4
 either-requires-4 c κs = search needs
 
-either-requires-5 : tie.Need-either-requires-5
-either-requires-5 c κs = search needs
-
-either-requires-6 : tie.Need-either-requires-6
-either-requires-6 c κs = search needs
-
-either-requires-7 : tie.Need-either-requires-7
-either-requires-7 c κs = search needs
-
 returns : tie.Need-returns
 unfolding seen-with
-returns c = rw (c .before .before .before .before .before .before .either .ensures, c .before .before .before .before .either3 .ensures, c .before .before .before .before .before .either2 .ensures, c .before .before .before .either4 .ensures, c .before .before .either5 .ensures, c .before .either6 .ensures, c .either7 .ensures)
+returns c = rw (c .before .before .before .either .ensures, c .before .before .either2 .ensures, c .before .either3 .ensures, c .either4 .ensures)
 
 pub with-spec : {M : Type 1} → statement M
-with-spec =
-    tie.close
-    (tie.spec
-    either-requires
-    either-requires-2
-    either-requires-3
-    either-requires-4
-    either-requires-5
-    either-requires-6
-    either-requires-7
-    returns)
+with-spec = tie.close (tie.spec either-requires either-requires-2 either-requires-3 either-requires-4 returns)
