@@ -39,8 +39,11 @@ impl Operation {
         Self::ALL.into_iter().find(|op| op.name() == name)
     }
 
+    /// In the order of [`tree::pages`].
+    pub const PAGES: [Self; 3] = [Self::Plain, Self::Body, Self::Document];
+
     pub fn is_page(self) -> bool {
-        !matches!(self, Self::Check | Self::Layout)
+        Self::PAGES.contains(&self)
     }
 }
 
@@ -76,6 +79,15 @@ impl Request {
             file,
         }
     }
+
+    pub fn asked(&self) -> Asked<'_> {
+        Asked {
+            operation: self.operation,
+            width: self.width,
+            room: self.room,
+            file: &self.file,
+        }
+    }
 }
 
 /// The count is that of changed tag bytes for a layout, the page's length for
@@ -100,28 +112,113 @@ pub struct Outcome {
     pub lent: Vec<u8>,
 }
 
-/// What is right for a request.
-pub fn answer(request: &Request) -> Outcome {
-    match request.operation {
-        Operation::Check => check_outcome(&request.file),
-        Operation::Layout => layout_outcome(&request.file, request.width),
-        page => page_outcome(&rendered(page, &request.file), request.room),
+impl Outcome {
+    /// What is right, where this is, and every lent byte counts as written.
+    pub fn right(&self) -> Right<'_> {
+        Right {
+            answer: self.answer,
+            written: &self.lent,
+        }
     }
 }
 
-fn check_outcome(file: &[u8]) -> Outcome {
-    let answer = match check(file) {
+/// A request whose file is only borrowed.
+#[derive(Clone, Copy)]
+pub struct Asked<'a> {
+    pub operation: Operation,
+    pub width: u16,
+    pub room: usize,
+    pub file: &'a [u8],
+}
+
+impl<'a> Asked<'a> {
+    pub fn check(file: &'a [u8]) -> Self {
+        Self::page(Operation::Check, 0, file)
+    }
+
+    pub fn layout(width: u16, file: &'a [u8]) -> Self {
+        Self {
+            operation: Operation::Layout,
+            width,
+            room: 0,
+            file,
+        }
+    }
+
+    pub fn page(operation: Operation, room: usize, file: &'a [u8]) -> Self {
+        Self {
+            operation,
+            width: 0,
+            room,
+            file,
+        }
+    }
+
+    /// How many bytes are lent to be written.
+    pub fn lent(self) -> usize {
+        match self.operation {
+            Operation::Check => 0,
+            Operation::Layout => self.file.len(),
+            _ => self.room,
+        }
+    }
+
+    pub fn to_request(self) -> Request {
+        Request {
+            operation: self.operation,
+            width: self.width,
+            room: self.room,
+            file: self.file.to_vec(),
+        }
+    }
+}
+
+/// An outcome whose bytes are only borrowed: of the lent bytes those that were
+/// written, in front; behind them a page is as it was lent.
+#[derive(Clone, Copy)]
+pub struct Right<'a> {
+    pub answer: Answer,
+    pub written: &'a [u8],
+}
+
+impl Right<'_> {
+    /// With all lent bytes, so many of them.
+    pub fn to_outcome(self, lent: usize) -> Outcome {
+        let mut bytes = self.written.to_vec();
+        bytes.resize(lent, LENT);
+        Outcome {
+            answer: self.answer,
+            lent: bytes,
+        }
+    }
+}
+
+/// What the check said of a file.
+type Checked = Result<(), Refusal>;
+
+/// What is right for a request.
+pub fn answer(request: &Request) -> Outcome {
+    let file = &request.file;
+    match request.operation {
+        Operation::Check => check_right(check(file)).to_outcome(0),
+        Operation::Layout => layout_outcome(file, check(file), request.width),
+        page => page_outcome(&rendered(page, file), request.room),
+    }
+}
+
+pub fn check_right(checked: Checked) -> Right<'static> {
+    let answer = match checked {
         Ok(()) => Answer::Accepted(0),
         Err(refusal) => refusal.into(),
     };
-    Outcome {
+    Right {
         answer,
-        lent: Vec::new(),
+        written: &[],
     }
 }
 
-fn layout_outcome(file: &[u8], width: u16) -> Outcome {
-    if let Err(refusal) = layout_check(file, width) {
+pub fn layout_outcome(file: &[u8], checked: Checked, width: u16) -> Outcome {
+    if let Err(refusal) = layout_check(checked, width) {
         return Outcome {
             answer: refusal.into(),
             lent: file.to_vec(),
@@ -136,8 +233,7 @@ fn layout_outcome(file: &[u8], width: u16) -> Outcome {
 }
 
 /// The refusals of a layout in their order: 1, then 2, then the walk.
-fn layout_check(file: &[u8], width: u16) -> Result<(), Refusal> {
-    let walked = check(file);
+fn layout_check(walked: Checked, width: u16) -> Checked {
     if width <= LARGEST_WIDTH || matches!(walked, Err(Refusal { number: 1, .. })) {
         return walked;
     }
@@ -159,18 +255,20 @@ pub fn rendered(page: Operation, file: &[u8]) -> Result<Vec<u8>, Refusal> {
 }
 
 /// What becomes of a page in a lent buffer of `room` bytes.
-pub fn page_outcome(page: &Result<Vec<u8>, Refusal>, room: usize) -> Outcome {
-    let mut lent = vec![LENT; room];
-    let answer = match page {
-        Err(refusal) => (*refusal).into(),
-        Ok(page) if page.len() > room => Answer::Refused {
-            number: 10,
-            place: page.len(),
-        },
-        Ok(page) => {
-            lent[..page.len()].copy_from_slice(page);
-            Answer::Accepted(page.len())
+pub fn page_right(page: Result<&[u8], Refusal>, room: usize) -> Right<'_> {
+    let (answer, written) = match page {
+        Err(refusal) => (refusal.into(), &[][..]),
+        Ok(page) if page.len() > room => {
+            let (number, place) = (10, page.len());
+            (Answer::Refused { number, place }, &[][..])
         }
+        Ok(page) => (Answer::Accepted(page.len()), page),
     };
-    Outcome { answer, lent }
+    Right { answer, written }
+}
+
+/// The same with all lent bytes.
+pub fn page_outcome(page: &Result<Vec<u8>, Refusal>, room: usize) -> Outcome {
+    let page = page.as_deref().map_err(|refusal| *refusal);
+    page_right(page, room).to_outcome(room)
 }

@@ -5,7 +5,9 @@ use crate::check::check;
 use crate::compare::{self, Disagreement, Stop, Tally};
 use crate::damage::noise;
 use crate::examples;
+use crate::extent::Extent;
 use crate::hex::hex;
+use crate::masks::{self, Unlike};
 use crate::numbers::{self, Misprint};
 use crate::options::Options;
 use crate::random::Random;
@@ -13,14 +15,13 @@ use crate::record;
 use crate::selftest;
 use crate::subject::{Child, Oneself, Subject};
 use crate::tags::{FULL_OPACITY, LEAST_OPACITY};
-use crate::tree;
 use crate::wire;
 use std::fs;
 use std::io::{self, Read, Write};
 use std::num::NonZeroUsize;
 use std::path::Path;
 use std::process::ExitCode;
-use std::time::{Instant, SystemTime, UNIX_EPOCH};
+use std::time::{Duration, Instant, SystemTime, UNIX_EPOCH};
 
 const USAGE: &str = "\
 oracle COMMAND: the Rust original's answers for fragment files
@@ -36,16 +37,18 @@ oracle COMMAND: the Rust original's answers for fragment files
                                subject of another judge
   record DIR                   writes the recorded answers
   lines [--seed S] [--files N] prints files in hex with the check's answer
-  compare --subject WHAT [--parts P,P] [--seed S] [--files N]
-                               WHAT is `self` or a command that reads a request
-                               batch and writes the response batch
+  compare --subject WHAT [--parts P,P] [--seed S] [--files N | --seconds N]
+                               WHAT is `self`, `library` (the proved library,
+                               where it is linked to this program) or a command
+                               that reads a request batch and writes the
+                               response batch
+  masks --subject WHAT [--seed S] [--files N | --seconds N]
+                               accepted files and masks of them get the same
+                               answers, and one list of bytes gives their pages
   numbers --subject WHAT [--every N] [--from K]
                                compares every opacity, size and weight in HTML
                                bodies; of the opacities from 1/1024 to 1 only
                                each Nth, beginning with the one numbered K
-  time [--width W] [--times N] FILE
-                               prints how long the original takes to lay the
-                               file's tree out: nanoseconds, the best of N
   selftest [--seed S] [--files N]
                                tests the judge itself
   help                         prints this
@@ -65,9 +68,15 @@ pub fn run(words: &[String]) -> Result<ExitCode, Mistake> {
         "respond" => run_respond(&Options::new(rest, &[])?),
         "record" => run_record(&Options::new(rest, &[])?),
         "lines" => run_lines(&Options::new(rest, &["seed", "files"])?),
-        "compare" => run_compare(&Options::new(rest, &["subject", "parts", "seed", "files"])?),
+        "compare" => {
+            let allowed = ["subject", "parts", "seed", "files", "seconds"];
+            run_compare(&Options::new(rest, &allowed)?)
+        }
+        "masks" => {
+            let allowed = ["subject", "seed", "files", "seconds"];
+            run_masks(&Options::new(rest, &allowed)?)
+        }
         "numbers" => run_numbers(&Options::new(rest, &["subject", "every", "from"])?),
-        "time" => run_time(&Options::new(rest, &["width", "times"])?),
         "selftest" => run_selftest(&Options::new(rest, &["seed", "files"])?),
         "help" | "--help" => print(USAGE.as_bytes()),
         other => Err(format!("no command {other}")),
@@ -119,17 +128,6 @@ fn run_ask(options: &Options) -> Result<ExitCode, Mistake> {
             Ok(ExitCode::FAILURE)
         }
     }
-}
-
-fn run_time(options: &Options) -> Result<ExitCode, Mistake> {
-    let [path] = options.words()?;
-    let file = fs::read(path).map_err(|e| format!("{path}: {e}"))?;
-    check(&file).map_err(|refusal| wire::answer_words(refusal.into()))?;
-    let width = options.number("width")?.unwrap_or(80);
-    let times = options.number("times")?.unwrap_or(100_u32);
-    let best = (0..times).map(|_| tree::layout_time(&file, width)).min();
-    println!("{}", best.ok_or("no times")?);
-    Ok(ExitCode::SUCCESS)
 }
 
 fn named(name: &str) -> Result<Operation, Mistake> {
@@ -206,10 +204,30 @@ fn parts(options: &Options) -> Result<Vec<Operation>, Mistake> {
     }
 }
 
+/// How long to go on: so many files, or so many seconds.
+fn extent(options: &Options) -> Result<Extent, Mistake> {
+    match (options.number("files")?, options.number("seconds")?) {
+        (files, None) => Ok(Extent::Files(files.unwrap_or(20_000))),
+        (None, Some(seconds)) => Ok(Extent::For(Duration::from_secs(seconds))),
+        (Some(_), Some(_)) => Err("either --files or --seconds".into()),
+    }
+}
+
+#[cfg(feature = "linked")]
+fn library() -> Result<Box<dyn Subject>, Mistake> {
+    Ok(Box::new(crate::library::Library::new()))
+}
+
+#[cfg(not(feature = "linked"))]
+fn library() -> Result<Box<dyn Subject>, Mistake> {
+    Err("this judge was built without the library; tests/linked/compare builds one with it".into())
+}
+
 /// The subject asked for.
 fn subject(options: &Options, parts: &[Operation]) -> Result<Box<dyn Subject>, Mistake> {
     match options.text("subject") {
         Some("self") => Ok(Box::new(Oneself)),
+        Some("library") => library(),
         Some(command) => Ok(Box::new(Child::new(command, parts)?)),
         None => Err("a --subject is needed".into()),
     }
@@ -219,17 +237,15 @@ fn run_compare(options: &Options) -> Result<ExitCode, Mistake> {
     let [] = options.words()?;
     let parts = parts(options)?;
     let seed = seed(options)?;
-    let files = options.number("files")?.unwrap_or(20_000);
     let mut subject = subject(options, &parts)?;
     if let Some(part) = parts.iter().find(|part| !subject.parts().contains(part)) {
         return Err(format!("the subject does not answer {}", part.name()));
     }
+    let extent = extent(options)?;
     println!("seed {seed}");
-    let start = Instant::now();
-    match compare_all(&mut *subject, &parts, seed, files) {
-        Ok(files) => {
-            let per_second = files as f64 / start.elapsed().as_secs_f64();
-            println!("no disagreement; {per_second:.0} files per second");
+    match compare_all(&mut *subject, &parts, seed, extent) {
+        Ok(()) => {
+            println!("no disagreement");
             Ok(ExitCode::SUCCESS)
         }
         Err(stop) => stopped(stop, Disagreement::words),
@@ -247,23 +263,47 @@ fn stopped<D>(stop: Stop<D>, words: fn(&D) -> String) -> Result<ExitCode, Mistak
     }
 }
 
-/// All short files, then the random ones; how many in all.
+/// All short files, then the random ones.
 fn compare_all(
     subject: &mut dyn Subject,
     parts: &[Operation],
     seed: u64,
-    files: u64,
-) -> Result<u64, Stop> {
+    extent: Extent,
+) -> Result<(), Stop> {
     let short = compare::run_short(subject, parts)?;
     println!("short files: {}", words(&short));
-    let random = compare::run(subject, parts, seed, files)?;
-    println!("random files: {}", words(&random));
-    Ok(short.files + random.files)
+    let start = Instant::now();
+    let random = compare::run(subject, parts, seed, extent)?;
+    let rate = per_minute(random.files, start);
+    println!("random files: {}; {rate}", words(&random));
+    Ok(())
+}
+
+fn per_minute(files: u64, start: Instant) -> String {
+    let rate = files as f64 * 60.0 / start.elapsed().as_secs_f64();
+    format!("{rate:.0} files per minute")
 }
 
 fn words(tally: &Tally) -> String {
     let (files, accepted, requests) = (tally.files, tally.accepted, tally.requests);
     format!("{files}, of them accepted {accepted}, requests {requests}")
+}
+
+fn run_masks(options: &Options) -> Result<ExitCode, Mistake> {
+    let [] = options.words()?;
+    let seed = seed(options)?;
+    let extent = extent(options)?;
+    let mut subject = subject(options, &Operation::ALL)?;
+    println!("seed {seed}");
+    let start = Instant::now();
+    match masks::run(&mut *subject, seed, extent) {
+        Ok(masks::Tally { files, requests }) => {
+            let rate = per_minute(files, start);
+            println!("alike: {files} files with their masks, requests {requests}; {rate}");
+            Ok(ExitCode::SUCCESS)
+        }
+        Err(stop) => stopped(stop, Unlike::words),
+    }
 }
 
 fn run_numbers(options: &Options) -> Result<ExitCode, Mistake> {

@@ -1,13 +1,16 @@
 //! Compares a subject with the judge over random files, and makes the first disagreement small.
 
-use crate::answers::{self, Answer, Operation, Outcome, Request};
+use crate::answers::{self, Asked, Operation, Outcome, Request, Right};
+use crate::check::{check, Refusal};
 use crate::damage::{self, noise};
+use crate::extent::Extent;
 use crate::field;
 use crate::generate;
 use crate::hex::hex;
 use crate::random::Random;
 use crate::shrink::shrink;
 use crate::subject::{Said, Subject};
+use crate::tree;
 use crate::wire;
 
 /// A batch is asked when it holds so many requests, or so many bytes of files
@@ -20,29 +23,6 @@ const MOST_BYTES: usize = 1 << 24;
 pub struct Case {
     pub request: Request,
     pub right: Outcome,
-}
-
-/// Requests that wait to be asked.
-#[derive(Default)]
-struct Batch {
-    cases: Vec<Case>,
-    bytes: usize,
-}
-
-impl Batch {
-    fn ask(&mut self, request: Request) {
-        let right = answers::answer(&request);
-        self.add(request, right);
-    }
-
-    fn add(&mut self, request: Request, right: Outcome) {
-        self.bytes += request.file.len() + right.lent.len();
-        self.cases.push(Case { request, right });
-    }
-
-    fn is_full(&self) -> bool {
-        self.cases.len() >= MOST_REQUESTS || self.bytes >= MOST_BYTES
-    }
 }
 
 /// What a run went through.
@@ -66,15 +46,15 @@ pub enum Stop<Difference = Disagreement> {
     CannotAsk(String),
 }
 
-/// Asks for `files` random files; the same seed asks the same again.
+/// Asks for random files; the same seed asks the same again.
 pub fn run(
     subject: &mut dyn Subject,
     parts: &[Operation],
     seed: u64,
-    files: u64,
+    extent: Extent,
 ) -> Result<Tally, Stop> {
-    let random = (0..files).map(|index| {
-        let mut random = Random::new(seed, index);
+    let random = extent.numbers().map(|number| {
+        let mut random = Random::new(seed, number);
         let file = any_file(&mut random);
         (random, file)
     });
@@ -94,16 +74,17 @@ fn run_over(
     subject: &mut dyn Subject,
     parts: &[Operation],
 ) -> Result<Tally, Stop> {
-    let mut tally = Tally::default();
-    let mut batch = Batch::default();
+    let mut run = Run {
+        subject,
+        waiting: Vec::new(),
+        bytes: 0,
+        tally: Tally::default(),
+    };
     for (mut random, file) in files {
-        ask_all(&mut random, &file, parts, &mut batch, &mut tally);
-        if batch.is_full() {
-            judge(subject, &std::mem::take(&mut batch).cases)?;
-        }
+        run.ask_all(&mut random, &file, parts)?;
     }
-    judge(subject, &batch.cases)?;
-    Ok(tally)
+    run.judge_waiting()?;
+    Ok(run.tally)
 }
 
 /// An accepted file or a damaged one.
@@ -114,68 +95,126 @@ pub fn any_file(random: &mut Random) -> Vec<u8> {
     }
 }
 
-/// All requests for one file.
-fn ask_all(
-    random: &mut Random,
-    file: &[u8],
-    parts: &[Operation],
-    batch: &mut Batch,
-    tally: &mut Tally,
-) {
-    let before = batch.cases.len();
-    let width = generate::width(random, file.len());
-    let laid_out = answers::answer(&Request::layout(width, file.to_vec()));
-    let accepted = matches!(laid_out.answer, Answer::Accepted(_));
-    for part in parts {
-        match part {
-            Operation::Check => batch.ask(Request::check(file.to_vec())),
-            Operation::Layout => {
-                // Once, again at the same width, and at another.
-                let other = generate::width(random, file.len());
-                let again = laid_out.lent.clone();
-                batch.ask(Request::layout(width, file.to_vec()));
-                batch.ask(Request::layout(width, again.clone()));
-                batch.ask(Request::layout(other, again));
-            }
-            page => {
-                let laid = accepted && random.one_in(2);
-                let file = if laid { &laid_out.lent } else { file };
-                ask_page(random, *page, file, batch);
-            }
-        }
-    }
-    tally.files += 1;
-    tally.accepted += u64::from(crate::check::check(file).is_ok());
-    tally.requests += (batch.cases.len() - before) as u64;
+/// The subject that is asked, and the cases that wait for a batch.
+struct Run<'a> {
+    subject: &'a mut dyn Subject,
+    waiting: Vec<Case>,
+    bytes: usize,
+    tally: Tally,
 }
 
-/// One page in rooms of no byte, a byte too few, just enough, and more with a guard behind.
-fn ask_page(random: &mut Random, page: Operation, file: &[u8], batch: &mut Batch) {
-    let rendered = answers::rendered(page, file);
-    let length = rendered.as_ref().map_or(4, Vec::len);
-    let more = random.between(1, 40);
-    let mut rooms = vec![0, length.saturating_sub(1), length, length + more];
-    rooms.dedup();
-    for room in rooms {
-        batch.add(
-            Request::page(page, room, file.to_vec()),
-            answers::page_outcome(&rendered, room),
-        );
+impl Run<'_> {
+    /// All requests for one file.
+    fn ask_all(
+        &mut self,
+        random: &mut Random,
+        file: &[u8],
+        parts: &[Operation],
+    ) -> Result<(), Stop> {
+        let checked = check(file);
+        if parts.contains(&Operation::Check) {
+            self.ask(Asked::check(file), answers::check_right(checked))?;
+        }
+        let width = generate::width(random, file.len());
+        let laid_out = answers::layout_outcome(file, checked, width);
+        if parts.contains(&Operation::Layout) {
+            self.ask(Asked::layout(width, file), laid_out.right())?;
+            // Again at the same width, and at another.
+            for width in [width, generate::width(random, file.len())] {
+                self.ask_layout(width, &laid_out.lent, checked)?;
+            }
+        }
+        // Refused layouts leave the file as it was.
+        let shown = if random.one_in(2) {
+            &laid_out.lent
+        } else {
+            file
+        };
+        if parts.iter().any(|part| part.is_page()) {
+            let pages = checked.map(|()| tree::pages(shown));
+            self.ask_pages(random, shown, &pages, parts)?;
+        }
+        self.tally.files += 1;
+        self.tally.accepted += u64::from(checked.is_ok());
+        Ok(())
+    }
+
+    /// The layout of a file that is laid out already, of which the check says what it said before.
+    fn ask_layout(
+        &mut self,
+        width: u16,
+        file: &[u8],
+        checked: Result<(), Refusal>,
+    ) -> Result<(), Stop> {
+        let laid_out = answers::layout_outcome(file, checked, width);
+        self.ask(Asked::layout(width, file), laid_out.right())
+    }
+
+    /// Each page in rooms of no byte, a byte too few, just enough, and more; where
+    /// there is no page to be too long, in no room and in some.
+    fn ask_pages(
+        &mut self,
+        random: &mut Random,
+        file: &[u8],
+        pages: &Result<[Vec<u8>; 3], Refusal>,
+        parts: &[Operation],
+    ) -> Result<(), Stop> {
+        for (index, operation) in Operation::PAGES.into_iter().enumerate() {
+            if !parts.contains(&operation) {
+                continue;
+            }
+            let page = match pages {
+                Ok(pages) => Ok(&pages[index][..]),
+                Err(refusal) => Err(*refusal),
+            };
+            let more = random.between(1, 40);
+            let mut rooms = match page.map(<[u8]>::len) {
+                Ok(length) => vec![0, length.saturating_sub(1), length, length + more],
+                Err(_) => vec![0, more],
+            };
+            rooms.dedup();
+            for room in rooms {
+                let right = answers::page_right(page, room);
+                self.ask(Asked::page(operation, room, file), right)?;
+            }
+        }
+        Ok(())
+    }
+
+    /// Asks at once if the subject can be asked so, else when the batch is full.
+    fn ask(&mut self, asked: Asked, right: Right) -> Result<(), Stop> {
+        self.tally.requests += 1;
+        match self.subject.agrees(asked, right) {
+            Some(true) => return Ok(()),
+            Some(false) => return Err(differs(self.subject, &asked.to_request())),
+            None => {}
+        }
+        let right = right.to_outcome(asked.lent());
+        self.bytes += asked.file.len() + right.lent.len();
+        let request = asked.to_request();
+        self.waiting.push(Case { request, right });
+        if self.waiting.len() >= MOST_REQUESTS || self.bytes >= MOST_BYTES {
+            self.judge_waiting()?;
+        }
+        Ok(())
+    }
+
+    /// Compares the batch; the first difference is made small.
+    fn judge_waiting(&mut self) -> Result<(), Stop> {
+        let cases = std::mem::take(&mut self.waiting);
+        self.bytes = 0;
+        if cases.is_empty() {
+            return Ok(());
+        }
+        match first_difference(self.subject, &cases).map_err(Stop::CannotAsk)? {
+            None => Ok(()),
+            Some((index, _)) => Err(differs(self.subject, &cases[index].request)),
+        }
     }
 }
 
-/// Compares a batch; the first difference is made small.
-fn judge(subject: &mut dyn Subject, cases: &[Case]) -> Result<(), Stop> {
-    if cases.is_empty() {
-        return Ok(());
-    }
-    match first_difference(subject, cases).map_err(Stop::CannotAsk)? {
-        None => Ok(()),
-        Some((index, _)) => {
-            let request = &cases[index].request;
-            Err(Stop::Differs(Box::new(smallest(subject, request))))
-        }
-    }
+fn differs(subject: &mut dyn Subject, request: &Request) -> Stop {
+    Stop::Differs(Box::new(smallest(subject, request)))
 }
 
 /// The first case to which the subject says something wrong, and what it says.

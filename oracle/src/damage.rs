@@ -153,7 +153,7 @@ fn shuffle(random: &mut Random, list: &mut Vec<Field>, index: usize) {
         _ => {
             let tag = random.pick(&noise::TAGS);
             let length = random.pick(&[0, 0, 1, 3, 4]);
-            list.insert(index, field::leaf(tag, &vec![0; length]));
+            list.insert(index, field::leaf(tag, vec![0; length]));
         }
     }
 }
@@ -230,6 +230,6 @@ fn lengthen(random: &mut Random, file: &mut Vec<u8>) {
     let missing = (LONGEST_FILE + more).saturating_sub(file.len());
     let texts = [missing / 2, missing - missing / 2].map(|n| n.saturating_sub(2 * HEADER));
     file.extend(field::encode(
-        &texts.map(|length| field::text(&vec![b'l'; length])),
+        &texts.map(|length| field::text(vec![b'l'; length])),
     ));
 }

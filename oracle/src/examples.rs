@@ -134,7 +134,7 @@ fn built() -> Vec<Example> {
 
 /// A text of `a` that makes the file so long.
 fn padded(length: usize) -> Vec<u8> {
-    field::encode(&[field::text(&vec![b'a'; length - 2 * HEADER])])
+    field::encode(&[field::text(vec![b'a'; length - 2 * HEADER])])
 }
 
 /// Reading 12: refusal 1 comes before all others, in every operation.
@@ -225,9 +225,9 @@ fn rooms() -> Vec<Example> {
 /// 517 bytes at size 117 would measure 65,659; capped at 65,535 and with the
 /// excess of six plain bytes taken off they stay within 65,530.
 fn capped() -> Example {
-    let size = vec![field::leaf(SIZE, &[117])];
+    let size = vec![field::leaf(SIZE, [117])];
     let nodes = vec![
-        field::styled(size, &[b'x'; 517]),
+        field::styled(size, [b'x'; 517]),
         Field::Leaf(IF_BLOCK_LAYOUT, vec![b'y'; 6]),
     ];
     let file = field::encode(&[field::block(INLINE_OR_INDENTED_BLOCK, vec![nodes])]);

@@ -51,10 +51,23 @@ fn is_inner(tag: u8) -> bool {
     )
 }
 
+/// Most files are no longer.
+const MOSTLY: usize = 512;
+
 pub fn encode(fields: &[Field]) -> Vec<u8> {
-    let mut out = Vec::new();
+    let mut out = Vec::with_capacity(MOSTLY);
     put(&mut out, fields);
     out
+}
+
+/// How many bytes [`encode`] gives.
+pub fn length(fields: &[Field]) -> usize {
+    let one = |field: &Field| match field {
+        Leaf(_, value) => HEADER + value.len(),
+        Inner(_, inside) => HEADER + length(inside),
+        Loose(bytes) => bytes.len(),
+    };
+    fields.iter().map(one).sum()
 }
 
 fn put(out: &mut Vec<u8>, fields: &[Field]) {
@@ -100,22 +113,31 @@ pub fn inside(field: &Field) -> &[Field] {
 
 /// The list that holds the field `number`, counted in file order, and its index there.
 pub fn holder(fields: &mut Vec<Field>, mut number: usize) -> Option<(&mut Vec<Field>, usize)> {
-    let mut index = 0;
-    loop {
-        let size = 1 + count(inside(fields.get(index)?));
-        if number < size {
-            break;
+    let (index, path) = way(fields, &mut number)?;
+    let mut list = fields;
+    for index in path.into_iter().rev() {
+        match &mut list[index] {
+            Inner(_, inside) => list = inside,
+            Leaf(..) | Loose(_) => return None,
         }
-        number -= size;
-        index += 1;
     }
-    if number == 0 {
-        return Some((fields, index));
+    Some((list, index))
+}
+
+/// The index of the field `number` in its list, and those of the fields around
+/// it, the innermost first. Where there is none, `number` is less by all fields.
+fn way(fields: &[Field], number: &mut usize) -> Option<(usize, Vec<usize>)> {
+    for (index, field) in fields.iter().enumerate() {
+        if *number == 0 {
+            return Some((index, Vec::new()));
+        }
+        *number -= 1;
+        if let Some((inner, mut path)) = way(inside(field), number) {
+            path.push(index);
+            return Some((inner, path));
+        }
     }
-    match &mut fields[index] {
-        Inner(_, inside) => holder(inside, number - 1),
-        Leaf(..) | Loose(_) => None,
-    }
+    None
 }
 
 /// Every field in file order with its place and the number of blocks around it.
@@ -149,17 +171,17 @@ pub fn is_block(tag: u8) -> bool {
     matches!(tag, INDENTED_BLOCK | INLINE_OR_INDENTED_BLOCK)
 }
 
-pub fn leaf(tag: u8, value: &[u8]) -> Field {
-    Leaf(tag, value.to_vec())
+pub fn leaf(tag: u8, value: impl Into<Vec<u8>>) -> Field {
+    Leaf(tag, value.into())
 }
 
 /// An unstyled text.
-pub fn text(bytes: &[u8]) -> Field {
+pub fn text(bytes: impl Into<Vec<u8>>) -> Field {
     Inner(TEXT, vec![leaf(TEXT_BYTES, bytes)])
 }
 
 /// A text with the style fields given.
-pub fn styled(styles: Vec<Field>, bytes: &[u8]) -> Field {
+pub fn styled(styles: Vec<Field>, bytes: impl Into<Vec<u8>>) -> Field {
     Inner(TEXT, vec![Inner(STYLES, styles), leaf(TEXT_BYTES, bytes)])
 }
 

@@ -19,14 +19,14 @@ pub fn fields(random: &mut Random) -> Vec<Field> {
     while plan.left > 0 {
         fields.extend(plan.nodes(0));
     }
-    let mut length = field::encode(&fields).len();
+    let mut length = field::length(&fields);
     while length > LONGEST_FILE {
         fields.pop();
-        length = field::encode(&fields).len();
+        length = field::length(&fields);
     }
     if fill && length + 2 * HEADER <= LONGEST_FILE {
         let rest = LONGEST_FILE - length - 2 * HEADER;
-        fields.push(field::text(&vec![b'p'; rest]));
+        fields.push(field::text(vec![b'p'; rest]));
     }
     fields
 }
@@ -72,11 +72,11 @@ fn wide(random: &mut Random) -> Vec<Field> {
         let bytes = vec![b'w'; length];
         nodes.push(match random.below(4) {
             0 => field::leaf(IF_BLOCK_LAYOUT, &bytes[..length.min(6_560)]),
-            _ if size == 0 => field::text(&bytes),
-            _ => field::styled(vec![field::leaf(SIZE, &size.to_be_bytes())], &bytes),
+            _ if size == 0 => field::text(bytes),
+            _ => field::styled(vec![field::leaf(SIZE, size.to_be_bytes())], bytes),
         });
         if random.one_in(3) {
-            nodes.push(field::leaf(IF_BLOCK_LAYOUT, &vec![b'v'; random.below(30)]));
+            nodes.push(field::leaf(IF_BLOCK_LAYOUT, vec![b'v'; random.below(30)]));
         }
     }
     let inside = field::block(INLINE_OR_INDENTED_BLOCK, vec![nodes]);
@@ -125,9 +125,9 @@ impl Plan<'_> {
             3..=5 if room => self.block(INDENTED_BLOCK, blocks),
             6..=10 if room => self.block(INLINE_OR_INDENTED_BLOCK, blocks),
             11 if room => self.deep(blocks),
-            12..=13 => field::leaf(BREAKING_ONLY_SPACE, &[]),
-            14..=15 => field::leaf(FORCE_LINE_SEPARATION, &[]),
-            16..=17 => field::leaf(IF_BLOCK_LAYOUT, &self.text_bytes()),
+            12..=13 => field::leaf(BREAKING_ONLY_SPACE, []),
+            14..=15 => field::leaf(FORCE_LINE_SEPARATION, []),
+            16..=17 => field::leaf(IF_BLOCK_LAYOUT, self.text_bytes()),
             _ => self.text(),
         }
     }
@@ -141,18 +141,18 @@ impl Plan<'_> {
     fn text(&mut self) -> Field {
         let bytes = self.text_bytes();
         if self.random.one_in(2) {
-            return field::text(&bytes);
+            return field::text(bytes);
         }
         let styles = styles::styles(self.random);
         self.spend(12);
-        field::styled(styles, &bytes)
+        field::styled(styles, bytes)
     }
 
     fn anchor(&mut self) -> Field {
         let tag = self.random.pick(&[DEFINITION, USE]);
         let name = texts::anchor(self.random);
         self.spend(name.len() + HEADER);
-        let mut inside = vec![field::leaf(tag, &name)];
+        let mut inside = vec![field::leaf(tag, name)];
         for _ in 0..self.random.pick(&[0, 0, 1, 1, 1, 2, 3]) {
             inside.push(self.text());
         }
@@ -209,7 +209,7 @@ impl Plan<'_> {
         if let Some((last, others)) = arguments.split_last_mut() {
             for other in others {
                 other.push(field::text(b","));
-                other.push(field::leaf(BREAKING_ONLY_SPACE, &[]));
+                other.push(field::leaf(BREAKING_ONLY_SPACE, []));
             }
             last.push(field::leaf(IF_BLOCK_LAYOUT, b","));
         }
@@ -224,7 +224,7 @@ impl Plan<'_> {
             2 if self.left > 0 => self.nodes(blocks),
             3 => vec![self.anchor()],
             4 => vec![self.text()],
-            _ => vec![field::text(&texts::name(self.random))],
+            _ => vec![field::text(texts::name(self.random))],
         }
     }
 }

@@ -35,11 +35,11 @@ impl Number {
     fn text(self) -> Field {
         let styles = match self {
             Self::Opacity(bits) => {
-                let opacity = leaf(OPACITY, &bits.to_be_bytes());
-                vec![leaf(COLOUR, &[0; 3]), opacity]
+                let opacity = leaf(OPACITY, bits.to_be_bytes());
+                vec![leaf(COLOUR, [0; 3]), opacity]
             }
-            Self::Size(size) => vec![leaf(SIZE, &size.to_be_bytes())],
-            Self::Thickness(thickness) => vec![leaf(THICKNESS, &thickness.to_be_bytes())],
+            Self::Size(size) => vec![leaf(SIZE, size.to_be_bytes())],
+            Self::Thickness(thickness) => vec![leaf(THICKNESS, thickness.to_be_bytes())],
         };
         field::styled(styles, b"")
     }

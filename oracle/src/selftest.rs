@@ -4,10 +4,12 @@ use crate::answers::Request;
 use crate::check::{check, Refusal};
 use crate::compare::{self, Stop};
 use crate::damage::{self, noise};
+use crate::extent::Extent;
 use crate::field;
 use crate::generate;
 use crate::hex::hex;
 use crate::known;
+use crate::masks;
 use crate::numbers::{self, Number, Tally};
 use crate::properties::{Held, Property, OF_ACCEPTED, OF_ANY};
 use crate::random::Random;
@@ -53,6 +55,8 @@ pub fn run(seed: u64, files: u64) -> Result<Vec<String>, String> {
         seen.words(),
     ];
     found.extend(wrong_subjects(seed)?);
+    found.push(masks_alike(seed, files / 50)?);
+    found.extend(wrong_of_masks(seed)?);
     all_numbers()?;
     found.extend(misprints()?);
     Ok(found)
@@ -114,16 +118,45 @@ fn wrong_subjects(seed: u64) -> Result<Vec<String>, String> {
     let mut found = Vec::new();
     for mut wrong in wrong::all() {
         let (name, parts, longest) = (wrong.name, wrong.part, wrong.longest);
-        match compare::run(&mut wrong, &parts, seed, 20_000) {
+        match compare::run(&mut wrong, &parts, seed, Extent::Files(20_000)) {
             Ok(_) => return Err(format!("not found: {name}")),
             Err(Stop::CannotAsk(why)) => return Err(format!("{name}: {why}")),
             Err(Stop::Differs(difference)) => {
                 let length = difference.request.file.len();
-                let words = difference.words();
-                if length > longest {
-                    return Err(format!("{name}: {length} bytes, over {longest}\n{words}"));
-                }
-                found.push(format!("found in {length} bytes: {name}"));
+                found.push(small(name, length, longest, &difference.words())?);
+            }
+        }
+    }
+    Ok(found)
+}
+
+fn small(name: &str, length: usize, longest: usize, words: &str) -> Result<String, String> {
+    match length <= longest {
+        true => Ok(format!("found in {length} bytes: {name}")),
+        false => Err(format!("{name}: {length} bytes, over {longest}\n{words}")),
+    }
+}
+
+/// `masks` finds no fault in the judge itself.
+fn masks_alike(seed: u64, files: u64) -> Result<String, String> {
+    match masks::run(&mut Oneself, seed, Extent::Files(files)) {
+        Ok(tally) => Ok(format!("{} files, their masks are alike", tally.files)),
+        Err(Stop::CannotAsk(why)) => Err(why),
+        Err(Stop::Differs(unlike)) => Err(unlike.words()),
+    }
+}
+
+/// `masks` has to find every subject that looks at the texts.
+fn wrong_of_masks(seed: u64) -> Result<Vec<String>, String> {
+    let mut found = Vec::new();
+    for mut wrong in wrong::of_masks() {
+        let (name, longest) = (wrong.name, wrong.longest);
+        match masks::run(&mut wrong, seed, Extent::Files(2_000)) {
+            Ok(_) => return Err(format!("not found: {name}")),
+            Err(Stop::CannotAsk(why)) => return Err(format!("{name}: {why}")),
+            Err(Stop::Differs(unlike)) => {
+                let length = unlike.request.file.len();
+                found.push(small(name, length, longest, &unlike.words())?);
             }
         }
     }

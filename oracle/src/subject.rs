@@ -1,6 +1,6 @@
 //! The thing under test: it answers requests in batches.
 
-use crate::answers::{answer, Operation, Outcome, Request};
+use crate::answers::{answer, Asked, Operation, Outcome, Request, Right};
 use crate::wire;
 use std::io::{Read, Write};
 use std::process::{Command, Stdio};
@@ -15,6 +15,12 @@ pub trait Subject {
 
     /// One saying for each request. An error means that it cannot be asked at all.
     fn answer(&mut self, requests: &[Request]) -> Result<Vec<Said>, String>;
+
+    /// Whether it says just what is right; none if it cannot be asked for so
+    /// little at once, but in batches. It saves copies of files and pages.
+    fn agrees(&mut self, _asked: Asked, _right: Right) -> Option<bool> {
+        None
+    }
 }
 
 /// The judge itself.

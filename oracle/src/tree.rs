@@ -4,7 +4,7 @@ use crate::print::pretty::{Fragment, FragmentPostLayout, Node, Styles};
 use crate::tags::*;
 use std::borrow::Cow;
 use std::hint::black_box;
-use std::time::Instant;
+use std::time::{Duration, Instant};
 
 type Run = (Option<Styles>, Cow<'static, str>);
 
@@ -15,16 +15,36 @@ pub fn laid_out(file: &[u8], width: u16) -> Vec<u8> {
     })
 }
 
-/// How long the original took to lay the file's tree out, in nanoseconds.
-pub fn layout_time(file: &[u8], width: u16) -> u128 {
-    let took = with_tree(file, width, |tree, width| {
+/// The original's plain page of the file laid out at `width`.
+pub fn laid_out_plain(file: &[u8], width: u16) -> Vec<u8> {
+    with_tree(file, width, |tree, width| {
+        let page = tree.layout_with_max_line_width(width).to_string();
+        page.into_bytes()
+    })
+}
+
+/// How long the original takes to lay the file's tree out and print its plain page.
+pub fn time_of_layout_and_plain(file: &[u8], width: u16) -> Duration {
+    with_tree(file, width, |tree, width| {
         let start = Instant::now();
-        let laid_out = black_box(tree.layout_with_max_line_width(width));
+        let laid_out = tree.layout_with_max_line_width(width);
+        let page = black_box(laid_out.to_string());
         let took = start.elapsed();
-        drop(laid_out);
-        took.as_nanos().to_be_bytes().to_vec()
-    });
-    u128::from_be_bytes(took.try_into().expect("the bytes of one number"))
+        drop((laid_out, page));
+        took
+    })
+}
+
+/// How long the original takes to print the file's tree as an HTML document.
+pub fn time_of_document(file: &[u8]) -> Duration {
+    with_tree(file, 0, |tree, _| {
+        let laid_out = FragmentPostLayout::from_fragment(tree);
+        let start = Instant::now();
+        let page = black_box(laid_out.render_to_html().to_html_doc());
+        let took = start.elapsed();
+        drop((laid_out, page));
+        took
+    })
 }
 
 /// The original's plain page of a file as it stands.
@@ -51,6 +71,16 @@ pub fn document(file: &[u8]) -> Vec<u8> {
     })
 }
 
+/// Plain page, HTML body and HTML document from one tree, which saves much of their cost.
+pub fn pages(file: &[u8]) -> [Vec<u8>; 3] {
+    with_tree(file, 0, |tree, _| {
+        let tree = FragmentPostLayout::from_fragment(tree);
+        let html = tree.render_to_html();
+        let document = html.to_html_doc();
+        [tree.to_string(), html.body, document].map(String::into_bytes)
+    })
+}
+
 /// The file, decoded and encoded again.
 pub fn there_and_back(file: &[u8]) -> Vec<u8> {
     with_tree(file, 0, |tree, _| encode(&tree))
@@ -61,11 +91,11 @@ pub fn there_and_back(file: &[u8]) -> Vec<u8> {
 /// The original's `IfBlockLayout` asks for a `&'static str`. Leaking each of
 /// them would fill the memory over hundreds of thousands of files, so the file
 /// itself is called static for as long as `work` runs.
-fn with_tree(file: &[u8], width: u16, work: fn(Fragment, usize) -> Vec<u8>) -> Vec<u8> {
+fn with_tree<R>(file: &[u8], width: u16, work: fn(Fragment, usize) -> R) -> R {
     // SAFETY: no part of the tree outlives `file`, which is borrowed until this
     // function returns. The tree is moved into `work`; that is a function
     // without captures, so it has nowhere to keep a part of it, and what it
-    // returns are bytes of their own. The original keeps no statics.
+    // returns are bytes of its own or a time. The original keeps no statics.
     let lasting: &'static [u8] = unsafe { std::mem::transmute::<&[u8], &'static [u8]>(file) };
     work(fragment(lasting), usize::from(width))
 }

@@ -43,14 +43,32 @@ const ALL: [(&str, Operation, usize, Says); 9] = [
     ("a page that fits just so is refused", Operation::Document, 0, fit_refused),
 ];
 
+/// Right but for the letter a in texts, so that masks are not answered alike.
+#[rustfmt::skip] // one row, one line
+const OF_MASKS: [(&str, Operation, usize, Says); 4] = [
+    ("all lines break where there is an a", Operation::Layout, 30, broken_lines),
+    ("a line moves where there is an a", Operation::Plain, 30, moved_line),
+    ("a body is longer where there is an a", Operation::Body, 20, longer_body),
+    ("an a is shown as a b", Operation::Document, 20, changed_letter),
+];
+
 pub fn all() -> Vec<Wrong> {
-    let wrong = ALL.map(|(name, part, longest, says)| Wrong {
-        name,
-        part: [part],
-        longest,
-        says,
-    });
-    wrong.into()
+    ALL.into_iter().map(Wrong::new).collect()
+}
+
+pub fn of_masks() -> Vec<Wrong> {
+    OF_MASKS.into_iter().map(Wrong::new).collect()
+}
+
+impl Wrong {
+    fn new((name, part, longest, says): (&'static str, Operation, usize, Says)) -> Self {
+        Self {
+            name,
+            part: [part],
+            longest,
+            says,
+        }
+    }
 }
 
 fn style_misplaced(request: &Request) -> Outcome {
@@ -95,7 +113,7 @@ fn excess_forgotten(request: &Request) -> Outcome {
 
 fn without_tag_7(fields: &[Field]) -> Vec<Field> {
     let plain = |field: &Field| match field {
-        Field::Leaf(IF_BLOCK_LAYOUT, value) if !value.contains(&b'\n') => field::text(value),
+        Field::Leaf(IF_BLOCK_LAYOUT, value) if !value.contains(&b'\n') => field::text(&value[..]),
         Field::Inner(tag, inside) => Field::Inner(*tag, without_tag_7(inside)),
         other => other.clone(),
     };
@@ -170,6 +188,52 @@ fn fit_refused(request: &Request) -> Outcome {
             place: request.room,
         };
         said.lent.fill(LENT);
+    }
+    said
+}
+
+fn broken_lines(request: &Request) -> Outcome {
+    let wrong = request.operation == Operation::Layout
+        && request.width <= LARGEST_WIDTH
+        && request.file.contains(&b'a');
+    let narrow = Request {
+        width: 0,
+        ..request.clone()
+    };
+    answer(if wrong { &narrow } else { request })
+}
+
+/// The first newline and the byte behind it change places.
+fn moved_line(request: &Request) -> Outcome {
+    let mut said = answer(request);
+    let wrong = request.operation == Operation::Plain && request.file.contains(&b'a');
+    if let (Answer::Accepted(length), true) = (said.answer, wrong) {
+        let page = &mut said.lent[..length];
+        let line = page.iter().position(|byte| *byte == b'\n');
+        if let Some(at) = line.filter(|at| at + 1 < length) {
+            page.swap(at, at + 1);
+        }
+    }
+    said
+}
+
+fn longer_body(request: &Request) -> Outcome {
+    let wrong = request.operation == Operation::Body && request.file.contains(&b'a');
+    if !wrong {
+        return answer(request);
+    }
+    let mut page = rendered(Operation::Body, &request.file);
+    if let Ok(page) = &mut page {
+        page.push(b'\n');
+    }
+    page_outcome(&page, request.room)
+}
+
+fn changed_letter(request: &Request) -> Outcome {
+    let mut said = answer(request);
+    if request.operation == Operation::Document {
+        let letters = said.lent.iter_mut().filter(|byte| **byte == b'a');
+        letters.for_each(|byte| *byte = b'b');
     }
     said
 }

@@ -59,7 +59,7 @@ fn spoil(random: &mut Random, inside: &mut Vec<Field>) {
         _ => {
             let tag = random.pick(&[0, 1, 17, 31, 32, 33, 34, 35, 36, 37, 38, 39, 255]);
             let length = random.between(0, 5);
-            inside.push(leaf(tag, &vec![0; length]));
+            inside.push(leaf(tag, vec![0; length]));
         }
     }
 }

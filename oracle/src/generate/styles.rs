@@ -20,7 +20,7 @@ pub fn styles(random: &mut Random) -> Vec<Field> {
     for tag in COLOUR..=DIM {
         let needed = tag == COLOUR && opaque;
         if (wants(tag) || needed) && !(both && tag == dropped) {
-            fields.push(leaf(tag, &value(random, tag)));
+            fields.push(leaf(tag, value(random, tag)));
         }
     }
     fields

@@ -41,7 +41,7 @@ pub fn text(random: &mut Random, most: usize) -> Vec<u8> {
         41..=48 => random.between(9, 40),
         _ => random.below(most + 1),
     };
-    let kind = random.below(8);
+    let kind = random.below(KINDS);
     let mut text = String::with_capacity(length);
     while text.len() < length {
         text.push(letter(random, kind));
@@ -49,7 +49,11 @@ pub fn text(random: &mut Random, most: usize) -> Vec<u8> {
     text.into_bytes()
 }
 
-fn letter(random: &mut Random, kind: usize) -> char {
+/// So many kinds of texts there are.
+pub const KINDS: usize = 8;
+
+/// A character of a text of the kind.
+pub fn letter(random: &mut Random, kind: usize) -> char {
     match kind {
         0..=3 => plain(random),
         4 if random.one_in(4) => '\n',

@@ -1,0 +1,166 @@
+//! The five entries over slices, and the three pages appended to a vector.
+
+use crate::Refusal;
+
+/// The C names of the proved library; `include/hazomeny.h` says what each does.
+mod c {
+    extern "C" {
+        pub fn hazomeny_check(file: *const u8, length: usize) -> u64;
+        pub fn hazomeny_layout(file: *mut u8, length: usize, width: usize) -> u64;
+        pub fn hazomeny_plain(file: *const u8, length: usize, page: *mut u8, room: usize) -> u64;
+        pub fn hazomeny_html_body(
+            file: *const u8,
+            length: usize,
+            page: *mut u8,
+            room: usize,
+        ) -> u64;
+        pub fn hazomeny_html_document(
+            file: *const u8,
+            length: usize,
+            page: *mut u8,
+            room: usize,
+        ) -> u64;
+    }
+}
+
+/// Takes an answer's one number apart: the low byte is the refusal's number or 0, above it stands the count or the place.
+fn answer(coded: u64) -> Result<usize, Refusal> {
+    let above = (coded >> 8) as usize;
+    match coded as u8 {
+        0 => Ok(above),
+        number => Err(Refusal {
+            number,
+            place: above,
+        }),
+    }
+}
+
+/// The file check: `Ok(0)`, or the first fault.
+///
+/// ```
+/// assert_eq!(hazomeny::check_file(b""), Ok(0));
+/// let refusal = hazomeny::check_file(b"\x63").unwrap_err();
+/// assert_eq!((refusal.number, refusal.place), (3, 0));
+/// ```
+pub fn check_file(file: &[u8]) -> Result<usize, Refusal> {
+    // SAFETY: the pointer and the length are those of one slice, which is read only while it is borrowed; the entry requires nothing else.
+    answer(unsafe { c::hazomeny_check(file.as_ptr(), file.len()) })
+}
+
+/// Lays the file out at a width in columns, in place, and says how many tags it changed (from 4, inline or indented, to 3, indented).
+///
+/// ```
+/// let mut file = *b"\x04\0\x0a\x08\0\x07\x01\0\x04\x11\0\x01x";
+/// assert_eq!(hazomeny::layout_file(&mut file, 1), Ok(0));
+/// assert_eq!(hazomeny::layout_file(&mut file, 0), Ok(1));
+/// assert_eq!(file[0], 3);
+/// ```
+pub fn layout_file(file: &mut [u8], width: usize) -> Result<usize, Refusal> {
+    // SAFETY: as for `check_file`; the slice is lent for writing, and nobody else has it meanwhile.
+    answer(unsafe { c::hazomeny_layout(file.as_mut_ptr(), file.len(), width) })
+}
+
+/// Writes the plain page of a file, laid out or not, to the start of `page` and says how long it is; later bytes stay.
+///
+/// A page that does not fit is refused with the bytes needed, so that an empty slice measures.
+///
+/// ```
+/// let file = b"\x01\0\x05\x11\0\x02ok";
+/// let refusal = hazomeny::plain_page(file, &mut []).unwrap_err();
+/// assert_eq!(refusal.bytes_needed(), Some(2));
+/// let mut page = *b"....";
+/// assert_eq!(hazomeny::plain_page(file, &mut page), Ok(2));
+/// assert_eq!(&page, b"ok..");
+/// ```
+pub fn plain_page(file: &[u8], page: &mut [u8]) -> Result<usize, Refusal> {
+    lend(c::hazomeny_plain, file, page)
+}
+
+/// Writes the HTML body of a file, one `pre` element; otherwise as [`plain_page`].
+///
+/// ```
+/// let mut page = [0; 100];
+/// let length = hazomeny::html_body(b"\x01\0\x04\x11\0\x01<", &mut page)?;
+/// assert!(page[..length].starts_with(b"<pre class=\"spirt-"));
+/// assert!(page[..length].ends_with(b"\">\n&lt;</pre>"));
+/// # Ok::<(), hazomeny::Refusal>(())
+/// ```
+pub fn html_body(file: &[u8], page: &mut [u8]) -> Result<usize, Refusal> {
+    lend(c::hazomeny_html_body, file, page)
+}
+
+/// Writes the whole HTML document of a file; otherwise as [`plain_page`].
+///
+/// ```
+/// let mut page = [0; 2000];
+/// let length = hazomeny::html_document(b"\x01\0\x05\x11\0\x02ok", &mut page)?;
+/// assert!(page[..length].starts_with(b"<!doctype html>\n"));
+/// assert!(page[..length].ends_with(b"\nok</pre></body>\n</html>\n"));
+/// # Ok::<(), hazomeny::Refusal>(())
+/// ```
+pub fn html_document(file: &[u8], page: &mut [u8]) -> Result<usize, Refusal> {
+    lend(c::hazomeny_html_document, file, page)
+}
+
+/// Appends the plain page of a file to `page`, which grows as needed, and says how many bytes that were. A refusal leaves `page` as it was.
+///
+/// ```
+/// let mut page = b"> ".to_vec();
+/// assert_eq!(hazomeny::append_plain_page(b"\x01\0\x05\x11\0\x02ok", &mut page), Ok(2));
+/// assert_eq!(page, b"> ok");
+/// ```
+pub fn append_plain_page(file: &[u8], page: &mut Vec<u8>) -> Result<usize, Refusal> {
+    append(plain_page, file, page)
+}
+
+/// Appends the HTML body of a file; otherwise as [`append_plain_page`].
+///
+/// ```
+/// let mut page = b"<body>".to_vec();
+/// hazomeny::append_html_body(b"", &mut page)?;
+/// assert!(page.starts_with(b"<body><pre "));
+/// # Ok::<(), hazomeny::Refusal>(())
+/// ```
+pub fn append_html_body(file: &[u8], page: &mut Vec<u8>) -> Result<usize, Refusal> {
+    append(html_body, file, page)
+}
+
+/// Appends the HTML document of a file; otherwise as [`append_plain_page`].
+///
+/// ```
+/// let mut page = Vec::new();
+/// let length = hazomeny::append_html_document(b"", &mut page)?;
+/// assert_eq!(page.len(), length);
+/// assert!(page.starts_with(b"<!doctype html>\n"));
+/// # Ok::<(), hazomeny::Refusal>(())
+/// ```
+pub fn append_html_document(file: &[u8], page: &mut Vec<u8>) -> Result<usize, Refusal> {
+    append(html_document, file, page)
+}
+
+type PageEntry = unsafe extern "C" fn(*const u8, usize, *mut u8, usize) -> u64;
+
+fn lend(entry: PageEntry, file: &[u8], page: &mut [u8]) -> Result<usize, Refusal> {
+    // SAFETY: each pointer and length are those of one slice; the file is only read, the page is lent for writing, and the two do not
+    // overlap, since the page is borrowed alone.
+    answer(unsafe { entry(file.as_ptr(), file.len(), page.as_mut_ptr(), page.len()) })
+}
+
+/// Tries the room that the vector has already, and makes it longer only where that is too little.
+fn append(
+    entry: fn(&[u8], &mut [u8]) -> Result<usize, Refusal>,
+    file: &[u8],
+    page: &mut Vec<u8>,
+) -> Result<usize, Refusal> {
+    let start = page.len();
+    // What is lent is cleared before, so no more of a large vector than nearly every page of such a file takes.
+    let room = (page.capacity() - start).min(8 * file.len() + 2_048);
+    page.resize(start + room, 0);
+    let mut said = entry(file, &mut page[start..]);
+    if let Some(needed) = said.err().and_then(|refusal| refusal.bytes_needed()) {
+        page.resize(start + needed, 0);
+        said = entry(file, &mut page[start..]);
+    }
+    page.truncate(start + said.unwrap_or(0));
+    said
+}

@@ -1,0 +1,33 @@
+//! A printer of shader listings that is proved, not only tested, to do what its rules say.
+//!
+//! It lays a fragment file out at a width, in place, and prints it as a plain page or as HTML. Every function takes every file, width and page
+//! buffer, and ends; it refuses by number and place ([`Refusal`]), and a refusal changes no byte.
+//!
+//! ```
+//! // `f(a, b)`: a text, a block that breaks where it does not fit, a text
+//! let file = b"\x01\0\x05\x11\0\x02f(\x04\0\x22\
+//!     \x08\0\x11\x01\0\x04\x11\0\x01a\x01\0\x04\x11\0\x01,\x05\0\0\
+//!     \x08\0\x0b\x01\0\x04\x11\0\x01b\x07\0\x01,\
+//!     \x01\0\x04\x11\0\x01)";
+//! let mut laid_out = file.to_vec();
+//! assert_eq!(hazomeny::layout_file(&mut laid_out, 7)?, 0);
+//! assert_eq!(hazomeny::layout_file(&mut laid_out, 6)?, 1);
+//!
+//! let mut page = Vec::new();
+//! hazomeny::append_plain_page(&laid_out, &mut page)?;
+//! assert_eq!(page, b"f(\n  a,\n  b,\n)");
+//! # Ok::<(), hazomeny::Refusal>(())
+//! ```
+//!
+//! The code behind these functions is a static library, `libhazomeny.a`, for x86-64 Linux. It takes no memory but stack (less than 256 KiB of
+//! it), keeps no state, and may be called from any number of threads.
+
+#![deny(missing_docs)]
+#![deny(unsafe_op_in_unsafe_fn)]
+
+mod entries;
+mod refusal;
+
+pub use entries::{append_html_body, append_html_document, append_plain_page};
+pub use entries::{check_file, html_body, html_document, layout_file, plain_page};
+pub use refusal::Refusal;

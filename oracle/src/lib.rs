@@ -1,0 +1,35 @@
+//! The judge: wraps the Rust original unchanged and says what is right for any fragment file.
+
+pub mod answers;
+pub mod check;
+pub mod commands;
+pub mod compare;
+pub mod damage;
+pub mod examples;
+pub mod extent;
+pub mod field;
+pub mod generate;
+pub mod hex;
+pub mod known;
+#[cfg(feature = "linked")]
+pub mod library;
+#[cfg(feature = "linked")]
+pub mod lists;
+pub mod masks;
+pub mod numbers;
+pub mod options;
+pub mod properties;
+pub mod random;
+pub mod record;
+pub mod selftest;
+pub mod shrink;
+pub mod subject;
+pub mod tags;
+pub mod tree;
+pub mod wire;
+pub mod wrong;
+
+/// The original, as `build.rs` brought it in.
+pub mod print {
+    include!(concat!(env!("OUT_DIR"), "/print.rs"));
+}

@@ -1,0 +1,70 @@
+//! Memory: the heap by an allocator that counts, the stack by painting it.
+
+use crate::inputs::{self, SIZES};
+use crate::stack;
+use crate::timing::{Bench, Job};
+use std::alloc::{GlobalAlloc, Layout, System};
+use std::sync::atomic::{AtomicUsize, Ordering::Relaxed};
+
+struct Counting;
+
+static NOW: AtomicUsize = AtomicUsize::new(0);
+static MOST: AtomicUsize = AtomicUsize::new(0);
+
+// SAFETY: all work is the system's; the counters do not allocate.
+unsafe impl GlobalAlloc for Counting {
+    unsafe fn alloc(&self, layout: Layout) -> *mut u8 {
+        let now = NOW.fetch_add(layout.size(), Relaxed) + layout.size();
+        MOST.fetch_max(now, Relaxed);
+        System.alloc(layout)
+    }
+
+    unsafe fn dealloc(&self, place: *mut u8, layout: Layout) {
+        NOW.fetch_sub(layout.size(), Relaxed);
+        System.dealloc(place, layout);
+    }
+}
+
+#[global_allocator]
+static COUNTING: Counting = Counting;
+
+/// The most that a job had at once, in bytes.
+pub struct Most {
+    pub stack: usize,
+    pub heap: usize,
+}
+
+/// What the plain page of one file takes, from bytes.
+pub struct Taken {
+    pub kind: &'static str,
+    pub length: usize,
+    pub ours: Most,
+    pub rust: Most,
+}
+
+/// The largest file of each kind.
+pub fn rows() -> Vec<Taken> {
+    let largest = inputs::all().skip(SIZES.len() - 1).step_by(SIZES.len());
+    let taken = largest.map(|input| {
+        let length = input.file.len();
+        let mut bench = Bench::new(input.file);
+        Taken {
+            kind: input.kind,
+            length,
+            ours: most(&mut bench, Job::OursPlain),
+            rust: most(&mut bench, Job::RustPlain),
+        }
+    });
+    taken.collect()
+}
+
+fn most(bench: &mut Bench, job: Job) -> Most {
+    let before = NOW.load(Relaxed);
+    MOST.store(before, Relaxed);
+    bench.run(job);
+    let heap = MOST.load(Relaxed) - before;
+    Most {
+        stack: stack::used(|| bench.run(job)),
+        heap,
+    }
+}

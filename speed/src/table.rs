@@ -1,0 +1,45 @@
+//! The tables, as text.
+
+use crate::memory::Taken;
+use crate::timing::{Job, Row};
+
+/// How many times ours the Rust takes.
+pub fn ratio(row: &Row, rust: Job, ours: Job) -> f64 {
+    row.time(rust) / row.time(ours)
+}
+
+/// The Rust's times over ours: above 1 the library is faster.
+pub fn times(rows: &[Row]) -> String {
+    let mut out = String::from(
+        "The Rust's time over ours (above 1 the library is faster), medians; `check`: the share of ours that one file check takes\n\n\
+         | Files | Bytes | Plain page, from bytes | Plain page, of a tree | HTML, from bytes | HTML, of a tree | check |\n\
+         |---|---|---|---|---|---|---|\n",
+    );
+    for row in rows {
+        let plain = ratio(row, Job::RustPlain, Job::OursPlain);
+        let plain_of_tree = ratio(row, Job::RustPlainOfTree, Job::OursPlain);
+        let html = ratio(row, Job::RustHtml, Job::OursHtml);
+        let html_of_tree = ratio(row, Job::RustHtmlOfTree, Job::OursHtml);
+        let check = row.time(Job::OursCheck) / row.time(Job::OursPlain);
+        out += &format!(
+            "| {} | {} | {plain:.2} | {plain_of_tree:.2} | {html:.2} | {html_of_tree:.2} | {check:.2} |\n",
+            row.kind, row.length
+        );
+    }
+    out
+}
+
+/// What each took of memory.
+pub fn memory(rows: &[Taken]) -> String {
+    let mut out = String::from(
+        "\nMemory at the most, in bytes; the page is the caller's\n\n\
+         | Files | Bytes | Ours: stack | Ours: heap | The Rust: stack | The Rust: heap |\n|---|---|---|---|---|---|\n",
+    );
+    for row in rows {
+        out += &format!(
+            "| {} | {} | {} | {} | {} | {} |\n",
+            row.kind, row.length, row.ours.stack, row.ours.heap, row.rust.stack, row.rust.heap
+        );
+    }
+    out
+}

@@ -1,0 +1,135 @@
+//! The jobs, timed in turn on one file.
+
+use crate::inputs::Input;
+use oracle::tree;
+use std::hint::black_box;
+use std::time::{Duration, Instant};
+
+/// The width that files are laid out at.
+pub const WIDTH: usize = 80;
+
+/// The longest page of any file here is far below.
+pub const ROOM: usize = 8 << 20;
+
+/// What is timed. Each entry of the library checks the file that it is given, so ours has two checks in `OursPlain`.
+#[derive(Clone, Copy, PartialEq, Eq)]
+pub enum Job {
+    /// The file check alone.
+    OursCheck,
+    /// Layout on a copy of the file, then its plain page.
+    OursPlain,
+    /// From the file's bytes: the tree is built, laid out, printed and dropped.
+    RustPlain,
+    /// Layout and printing of a tree that is there.
+    RustPlainOfTree,
+    /// The HTML document of a file that is laid out.
+    OursHtml,
+    /// From the file's bytes: the tree is built, printed as a document and dropped.
+    RustHtml,
+    /// Printing a tree that is there as a document.
+    RustHtmlOfTree,
+}
+
+impl Job {
+    pub const ALL: [Self; 7] = [
+        Self::OursCheck,
+        Self::OursPlain,
+        Self::RustPlain,
+        Self::RustPlainOfTree,
+        Self::OursHtml,
+        Self::RustHtml,
+        Self::RustHtmlOfTree,
+    ];
+}
+
+/// A file, its laid out copy, and room for pages.
+pub struct Bench {
+    file: Vec<u8>,
+    laid_out: Vec<u8>,
+    copy: Vec<u8>,
+    page: Vec<u8>,
+}
+
+impl Bench {
+    pub fn new(file: Vec<u8>) -> Self {
+        let mut laid_out = file.clone();
+        hazomeny::layout_file(&mut laid_out, WIDTH).expect("the inputs are accepted");
+        Self {
+            copy: file.clone(),
+            page: vec![0; ROOM],
+            laid_out,
+            file,
+        }
+    }
+
+    /// How long the job took, once.
+    pub fn time(&mut self, job: Job) -> Duration {
+        match job {
+            Job::RustPlainOfTree => tree::time_of_layout_and_plain(&self.file, WIDTH as u16),
+            Job::RustHtmlOfTree => tree::time_of_document(&self.laid_out),
+            _ => {
+                let start = Instant::now();
+                self.run(job);
+                start.elapsed()
+            }
+        }
+    }
+
+    pub fn run(&mut self, job: Job) {
+        match job {
+            Job::OursCheck => keep(hazomeny::check_file(&self.file)),
+            Job::OursPlain => {
+                self.copy.copy_from_slice(&self.file);
+                keep(hazomeny::layout_file(&mut self.copy, WIDTH));
+                keep(hazomeny::plain_page(&self.copy, &mut self.page));
+            }
+            Job::RustPlain | Job::RustPlainOfTree => {
+                drop(black_box(tree::laid_out_plain(&self.file, WIDTH as u16)));
+            }
+            Job::OursHtml => keep(hazomeny::html_document(&self.laid_out, &mut self.page)),
+            Job::RustHtml | Job::RustHtmlOfTree => {
+                drop(black_box(tree::document(&self.laid_out)));
+            }
+        }
+    }
+}
+
+/// An answer that was asked for in earnest.
+fn keep(answer: Result<usize, hazomeny::Refusal>) {
+    black_box(answer).expect("the inputs are accepted");
+}
+
+/// A file's median times, in nanoseconds, one for each job.
+pub struct Row {
+    pub kind: &'static str,
+    pub length: usize,
+    times: [u64; Job::ALL.len()],
+}
+
+impl Row {
+    pub fn time(&self, job: Job) -> f64 {
+        self.times[job as usize] as f64
+    }
+}
+
+/// Every job in each round, so that what else the machine does meets all of them alike.
+pub fn row(input: Input, rounds: usize) -> Row {
+    let length = input.file.len();
+    let mut bench = Bench::new(input.file);
+    let mut times = Job::ALL.map(|_| Vec::with_capacity(rounds));
+    for _ in 0..rounds {
+        for job in Job::ALL {
+            times[job as usize].push(bench.time(job).as_nanos() as u64);
+        }
+    }
+    Row {
+        kind: input.kind,
+        length,
+        times: times.map(median),
+    }
+}
+
+fn median(mut times: Vec<u64>) -> u64 {
+    times.sort_unstable();
+    times[times.len() / 2]
+}
