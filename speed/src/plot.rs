@@ -19,7 +19,7 @@ const LINES: [(Job, &str, &str); 3] = [
 pub fn svg(rows: &[Row]) -> String {
     let kinds: Vec<&[Row]> = rows.chunks(SIZES.len()).collect();
     let down = kinds.len().div_ceil(COLUMNS) as f64;
-    let (width, height) = (COLUMNS as f64 * PANEL.0 + 20.0, down * PANEL.1 + 44.0);
+    let (width, height) = (COLUMNS as f64 * PANEL.0 + 20.0, down * PANEL.1 + 54.0);
     let mut out = format!(
         "<svg xmlns=\"http://www.w3.org/2000/svg\" width=\"{width}\" height=\"{height}\" \
          font-family=\"sans-serif\" font-size=\"11\">\n<rect width=\"100%\" height=\"100%\" fill=\"white\"/>\n"
@@ -37,7 +37,10 @@ pub fn svg(rows: &[Row]) -> String {
 }
 
 fn legend(top: f64) -> String {
-    let mut out = String::new();
+    let mut out = format!(
+        "<text x=\"60\" y=\"{}\">Time of the plain page against the file's size, in times ours of the kind's smallest file</text>\n",
+        top - 14.0
+    );
     for (number, (_, colour, words)) in LINES.iter().enumerate() {
         let left = 60.0 + number as f64 * 190.0;
         let _ = writeln!(

@@ -1,11 +1,14 @@
 -- What the pen writes: a waiting break, a line's spaces, an operation's own bytes, and all of one operation.
-use mathlib.Core.Path.{_≡_, refl, ap, _∙_}
+use mathlib.Core.Path.{_≡_, refl, sym, ap, _∙_}
 use mathlib.Core.List.{List, [], _∷_, _++_, map, append-nil}
 use mathlib.Core.Bool.{Bool, true, false}
-use Prim.Native.Nat.{ℕ}
+use mathlib.Core.Option.{none}
+use Prim.Native.Nat.{ℕ, _/_, _%_}
+use native.Mathlib.Omega.{arith}
+use lib.Dec.{eqb→eq}
 use lib.ListN.{replicate}
 use Rattle.rules.specs.Bytes.{if_then_else_}
-use Rattle.rules.specs.Lines.{Mark, push, pop, open-anchor, close-anchor, Item, char, marked, copied, making, step, run}
+use Rattle.rules.specs.Lines.{Mark, push, pop, open-anchor, close-anchor, LineOp, mark, Machine, has-text, Item, char, marked, copied, making, release, spacing, item, step, run}
 use Rattle.rules.specs.Plain.{chars, fill}
 use Rattle.rules.specs.Html.{escape, open-tag, close-tag, makes, mark-html, item-html, items-html}
 use Rattle.rules.specs.Answers.{itself}
@@ -18,10 +21,11 @@ use Rattle.lines.specs.declared.Break.{Break}
 use Rattle.lines.specs.declared.Waiting as W
 use Rattle.lines.specs.declared.LineOp as O
 use Rattle.lines.specs.declared.Before.{Before}
-use Rattle.lines.specs.declared.Machine.{Machine}
+use Rattle.lines.specs.declared.Machine as M
 use Rattle.lines.specs.declared.Stepped.{Stepped}
 use Rattle.lines.specs.Said.{machine-of, break-bytes, spacing-bytes, before-bytes, step-of, operation, copies, own}
-use Rattle.pages.specs.Ran.{shown, after, machine, form, Interpreted}
+use Rattle.pages.specs.Ran.{shown, after, machine, form, Ran, IsMark, Interpreted}
+use Rattle.pages.specs.States.{line-numbered, waiting-numbered, form-numbered, machine-in, form-in, quiet}
 use Rattle.pages.specs.declared.state.Form as F
 use Rattle.pages.specs.declared.pen.Pen.{Pen}
 use Rattle.pages.proofs.Running.{shown-append}
@@ -171,7 +175,7 @@ unfolding shown
 shown-making F.the-variants.Plain bs = made-chars bs
 shown-making F.the-variants.Html bs = made-html bs
 
-pub one-operation : (op : O.LineOp) (v : List ℕ) (m : Machine) (f : F.Form) {p p′ : Pen} {page page₁ page₂ : List ℕ} {b : ℕ} (s : Stepped) → machine-of m ≡ machine p → f ≡ form p
+pub one-operation : (op : O.LineOp) (v : List ℕ) (m : M.Machine) (f : F.Form) {p p′ : Pen} {page page₁ page₂ : List ℕ} {b : ℕ} (s : Stepped) → machine-of m ≡ machine p → f ≡ form p
     → step-of s (own op v) ≡ step (machine-of m) (operation op v) → Written page (p .at) (before-bytes (s .before)) page₁ b → Written page₁ b (shown f (own op v)) page₂ (p′ .at)
     → machine p′ ≡ machine-of (s .machine) → form p′ ≡ f → Interpreted op v p page p′ page₂
 unfolding step-of after run
@@ -187,3 +191,47 @@ one-operation op v m f {p} {p′} s mine its e w own-w is kept =
         form-kept = kept ∙ its;
       };
     }
+
+-- ---- a mark where nothing shows
+
+quiet-machine : (n : ℕ) → quiet n ≡ true → (machine-in n ≡ record { level = n % 65536; line = has-text; waiting = none }) × (form-in n ≡ F.the-variants.Plain)
+unfolding quiet machine-in form-in line-numbered waiting-numbered form-numbered
+quiet-machine n e =
+    let q : n / 65536 ≡ 8 = eqb→eq (n / 65536) 8 (rw e tt) in
+    let l : n / 524288 ≡ 1 = omega (arith, q) in
+    let w : (n / 131072) % 4 ≡ 0 = omega (arith, q) in
+    let f : (n / 65536) % 2 ≡ 0 = omega (arith, q) in
+    (rw (l, w) refl, rw f refl)
+
+-- the machine of such a line
+abbrev within-line : ℕ → Machine
+within-line l = record { level = l; line = has-text; waiting = none }
+
+quiet-step : (l : ℕ) (k : Mark ℕ) → step (within-line l) (mark k) ≡ (marked k ∷ [], within-line l)
+unfolding step item release spacing
+quiet-step l k = refl
+
+quiet-ran : (k : Mark ℕ) {p : Pen} {page : List ℕ} → quiet (p .state) ≡ true → Ran (mark k ∷ []) p page p page
+unfolding after run shown chars fill
+quiet-ran k {p} {page} e =
+    let (m, f) = quiet-machine (p .state) e in
+    let l : ℕ = p .state % 65536 in
+    let s : step (machine p) (mark k) ≡ (marked k ∷ [], within-line l) = ap (λ x. step x (mark k)) m ∙ quiet-step l k in
+    record {
+      machine-then = m ∙ sym (ap (λ x. x .1) s);
+      written = rw (f, ap (λ x. x .0) s) writing.nothing;
+      form-kept = refl;
+    }
+
+pub quiet-mark : (op : O.LineOp) (v : List ℕ) {p : Pen} {page : List ℕ} → IsMark op → quiet (p .state) ≡ true → Interpreted op v p page p page
+unfolding IsMark operation
+quiet-mark O.the-variants.PushStyles v q e = record { ran = quiet-ran (push (styles-in v)) e }
+quiet-mark O.the-variants.PopStyles v q e = record { ran = quiet-ran (pop (styles-in v)) e }
+quiet-mark (O.the-variants.PushAnchor d) v q e = record { ran = quiet-ran (open-anchor d v) e }
+quiet-mark O.the-variants.PopAnchor v q e = record { ran = quiet-ran close-anchor e }
+quiet-mark O.the-variants.PushIndent v q e = absurd q
+quiet-mark O.the-variants.PopIndent v q e = absurd q
+quiet-mark (O.the-variants.EmptyAnchor d) v q e = absurd q
+quiet-mark O.the-variants.AppendToLine v q e = absurd q
+quiet-mark O.the-variants.StartNewLine v q e = absurd q
+quiet-mark (O.the-variants.BreakIfWithinLine b) v q e = absurd q

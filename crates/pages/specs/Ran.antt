@@ -9,6 +9,7 @@ use Rattle.rules.specs.Answers.{itself}
 use Rattle.writing.specs.Written.{Written}
 use Rattle.lines.specs.Said.{operation}
 use Rattle.lines.specs.declared.LineOp.{LineOp}
+use Rattle.lines.specs.declared.LineOp.the-variants as O
 use Rattle.pages.specs.OpsIn.{Ops}
 use Rattle.pages.specs.States.{machine-in, form-in}
 use Rattle.pages.specs.declared.state.Form as F
@@ -38,6 +39,19 @@ pub record Ran (os : Ops) (p : Code.Pen) (page : List ℕ) (p′ : Code.Pen) (pa
   pub machine-then : machine p′ ≡ after (machine p) os
   pub written : Written page (p .at) (shown (form p) (run (machine p) os)) page′ (p′ .at)
   pub form-kept : form p′ ≡ form p
+
+-- the operations that open or close a style or an anchor
+unfoldable pub IsMark : LineOp → Type 0
+IsMark O.PushStyles = Unit {0}
+IsMark O.PopStyles = Unit {0}
+IsMark (O.PushAnchor d) = Unit {0}
+IsMark O.PopAnchor = Unit {0}
+IsMark O.PushIndent = ⊥
+IsMark O.PopIndent = ⊥
+IsMark (O.EmptyAnchor d) = ⊥
+IsMark O.AppendToLine = ⊥
+IsMark O.StartNewLine = ⊥
+IsMark (O.BreakIfWithinLine b) = ⊥
 
 -- it has run the one operation of the code with the bytes beside it
 pub record Interpreted (op : LineOp) (v : List ℕ) (p : Code.Pen) (page : List ℕ) (p′ : Code.Pen) (page′ : List ℕ) : Type 0 where

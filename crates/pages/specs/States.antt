@@ -1,6 +1,8 @@
 -- What a pen's number says: the line machine and the form.
 use mathlib.Core.Option.{Option, none, some}
+use mathlib.Core.Bool.{Bool}
 use Prim.Native.Nat.{ℕ, zero, suc, _+_, _/_, _%_, _^_, _<_}
+use lib.Dec.{eqb}
 use Rattle.rules.specs.Lines as rules
 use Rattle.pages.specs.declared.state.Form as F
 
@@ -24,6 +26,10 @@ machine-in n = record { level = n % 65536; line = line-numbered (n / 524288); wa
 
 unfoldable pub form-in : ℕ → F.Form
 form-in n = form-numbered ((n / 65536) % 2)
+
+-- a plain page, a line with text, and no break that waits: nothing shows of a mark, nor stands before it
+unfoldable pub quiet : ℕ → Bool
+quiet n = eqb (n / 65536) 8
 
 -- the levels of a line that has no text yet
 unfoldable pub levels-of : rules.Line → ℕ

@@ -1,6 +1,7 @@
 // Texts and anchors: nodes that are no blocks.
 use crate::pen::Pen;
 use crate::pen::interpret;
+use crate::pen::interpret_mark;
 use fields::Field;
 use fields::field_at;
 use lines::Break;
@@ -49,9 +50,9 @@ fn render_text(v: &[u8], page: &mut [u8], pen: Pen) -> Pen
     else {
         return pen;
     };
-    let pushed = interpret(page, pen, LineOp::PushStyles, &v[from..to]);
+    let pushed = interpret_mark(page, pen, LineOp::PushStyles, &v[from..to]);
     let inside = render_bytes(&v[f..e], page, pushed);
-    interpret(page, inside, LineOp::PopStyles, &v[from..to])
+    interpret_mark(page, inside, LineOp::PopStyles, &v[from..to])
 }
 
 // A field of a 2 behind its name.
@@ -92,9 +93,9 @@ fn render_anchor(v: &[u8], page: &mut [u8], pen: Pen) -> Pen
     if v.len() <= to {
         return interpret(page, pen, LineOp::EmptyAnchor { is_def }, &v[from..to]);
     }
-    let pushed = interpret(page, pen, LineOp::PushAnchor { is_def }, &v[from..to]);
+    let pushed = interpret_mark(page, pen, LineOp::PushAnchor { is_def }, &v[from..to]);
     let inside = render_runs(v, to, page, pushed);
-    interpret(page, inside, LineOp::PopAnchor, b"")
+    interpret_mark(page, inside, LineOp::PopAnchor, b"")
 }
 
 // The value of a 7, which counts only directly in a block.

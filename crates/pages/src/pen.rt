@@ -2,6 +2,7 @@
 use crate::state::Form;
 use crate::state::form_in;
 use crate::state::machine_in;
+use crate::state::nothing_shows;
 use crate::state::state_of;
 use lines::Before;
 use lines::LineOp;
@@ -23,7 +24,7 @@ ghost use Rattle.writing.specs.Written.{Written};
 ghost use Rattle.lines.specs.Said.{break-bytes, before-bytes, own};
 ghost use Rattle.lines.specs.declared.LineOp.the-variants as LineOp;
 ghost use Rattle.pages.specs.declared.state.Form.the-variants as Form;
-ghost use Rattle.pages.specs.Ran.{shown, indent-of, Interpreted};
+ghost use Rattle.pages.specs.Ran.{shown, indent-of, IsMark, Interpreted};
 
 pub struct Pen {
     pub at: usize,
@@ -121,4 +122,16 @@ pub fn interpret(page: &mut [u8], pen: Pen, op: LineOp, text: &[u8]) -> Pen
         at,
         state: state_of(machine, form),
     }
+}
+
+// One operation that opens or closes a style or an anchor. On a plain page nothing shows of it, and on a line with text, where no break waits,
+// nothing stands before it.
+pub fn interpret_mark(page: &mut [u8], pen: Pen, op: LineOp, text: &[u8]) -> Pen
+    requires { ⌜ (indent-of pen < 2 ^ 15) × IsMark op ⌝ }
+    ensures { λ r. ⌜ Interpreted op (now (text .entry)) pen (now (page .entry)) r (now (page .exit)) ⌝ }
+{
+    if nothing_shows(pen.state) {
+        return pen;
+    }
+    interpret(page, pen, op, text)
 }

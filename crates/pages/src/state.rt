@@ -6,7 +6,7 @@ use lines::Waiting;
 ghost use mathlib.Core.Path.{_≡_};
 ghost use Prim.Native.Nat.{_<_, _^_};
 ghost use Rattle.lines.specs.Said.{line-of, waiting-of, machine-of};
-ghost use Rattle.pages.specs.States.{line-numbered, waiting-numbered, form-numbered, machine-in, form-in, Fits};
+ghost use Rattle.pages.specs.States.{line-numbered, waiting-numbered, form-numbered, machine-in, form-in, quiet, Fits};
 
 // How items are shown: texts alone, or texts escaped and marks as tags.
 pub enum Form {
@@ -107,4 +107,11 @@ pub fn state_of(m: Machine, form: Form) -> usize
         + waiting_number(waiting) * WAITING
         + form_number(form) * FORM
         + m.indent
+}
+
+// A plain page, a line with text, and no break that waits.
+pub fn nothing_shows(state: usize) -> bool
+    ensures { λ r. ⌜ r ≡ quiet state ⌝ }
+{
+    state / FORM == LINE / FORM
 }

@@ -2,6 +2,7 @@
 use mathlib.Core.Logic.{⊎-elim}
 use native.Mathlib.Omega.{arith}
 use Rattle.styles.proofs.Reading.{whole-inside}
+use Rattle.pages.specs.Ran.{IsMark}
 use Rattle.pages.proofs.Running.{kept, opened}
 use Rattle.pages.proofs.LeafLaws.{no-anchor, bare-anchor, anchor-around}
 use borrow.Author.Needs.{needs}
@@ -35,29 +36,31 @@ same-length c = search needs
 returns-2 : tie.Need-returns-2
 returns-2 c = bare-anchor _ (c .before .before .before .before .before .before .before .before .before .field-at .ensures) (c .before .before .before .before .before .before .before .tag .given .1) (c .before .before .before .before .before .if1 .taken) (c .before .before .interpret .ensures)
 
-sub-interpret-2 : tie.Need-sub-interpret-2
-sub-interpret-2 c = whole-inside _ _ _ _ _ _ (c .before .before .before .before .before .field-at .ensures) (c .before .before .before .tag .given .1) .rising
+sub-interpret-mark : tie.Need-sub-interpret-mark
+sub-interpret-mark c = whole-inside _ _ _ _ _ _ (c .before .before .before .before .before .field-at .ensures) (c .before .before .before .tag .given .1) .rising
 
-part-interpret-start-2 : tie.Need-part-interpret-start-2
-part-interpret-start-2 c = whole-inside _ _ _ _ _ _ (c .before .before .before .before .before .field-at .ensures) (c .before .before .before .tag .given .1) .rising
+part-interpret-mark-start : tie.Need-part-interpret-mark-start
+part-interpret-mark-start c = whole-inside _ _ _ _ _ _ (c .before .before .before .before .before .field-at .ensures) (c .before .before .before .tag .given .1) .rising
 
-part-interpret-end-2 : tie.Need-part-interpret-end-2
-part-interpret-end-2 c = whole-inside _ _ _ _ _ _ (c .before .before .before .before .before .field-at .ensures) (c .before .before .before .tag .given .1) .ends
+part-interpret-mark-end : tie.Need-part-interpret-mark-end
+part-interpret-mark-end c = whole-inside _ _ _ _ _ _ (c .before .before .before .before .before .field-at .ensures) (c .before .before .before .tag .given .1) .ends
 
-interpret-requires-2 : tie.Need-interpret-requires-2
-interpret-requires-2 c κs = search needs
+interpret-mark-requires : tie.Need-interpret-mark-requires
+unfolding IsMark
+interpret-mark-requires c κs = (omega (arith, c .before .before .before .before .before .before .before .before .before .pre), tt)
 
 render-runs-requires : tie.Need-render-runs-requires
-render-runs-requires c κs = omega (arith, opened (c .before .before .before .interpret2 .ensures) .indent-kept, c .before .before .before .before .before .before .before .before .before .before .before .before .before .pre)
+render-runs-requires c κs = omega (arith, opened (c .before .before .before .interpret-mark .ensures) .indent-kept, c .before .before .before .before .before .before .before .before .before .before .before .before .before .pre)
 
-slice-aggregate-interpret : tie.Need-slice-aggregate-interpret
-slice-aggregate-interpret c = search needs
+slice-aggregate-interpret-mark : tie.Need-slice-aggregate-interpret-mark
+slice-aggregate-interpret-mark c = search needs
 
-interpret-requires-3 : tie.Need-interpret-requires-3
-interpret-requires-3 c κs = omega (arith, c .before .before .before .before .render-runs .ensures .indent-kept, opened (c .before .before .before .before .before .before .before .before .interpret2 .ensures) .indent-kept, c .before .before .before .before .before .before .before .before .before .before .before .before .before .before .before .before .before .before .pre)
+interpret-mark-requires-2 : tie.Need-interpret-mark-requires-2
+unfolding IsMark
+interpret-mark-requires-2 c κs = (omega (arith, c .before .before .before .before .render-runs .ensures .indent-kept, opened (c .before .before .before .before .before .before .before .before .interpret-mark .ensures) .indent-kept, c .before .before .before .before .before .before .before .before .before .before .before .before .before .before .before .before .before .before .pre), tt)
 
 returns-3 : tie.Need-returns-3
-returns-3 c = anchor-around _ (c .before .before .before .before .before .before .before .before .before .before .before .before .before .before .before .before .before .before .field-at .ensures) (c .before .before .before .before .before .before .before .before .before .before .before .before .before .before .before .before .tag .given .1) (c .before .before .before .before .before .before .before .before .before .before .before .before .before .before .if1 .left) (c .before .before .before .before .before .before .before .before .before .before .before .interpret2 .ensures) (c .before .before .before .before .before .before .before .render-runs .ensures) (c .before .before .interpret3 .ensures)
+returns-3 c = anchor-around _ (c .before .before .before .before .before .before .before .before .before .before .before .before .before .before .before .before .before .before .field-at .ensures) (c .before .before .before .before .before .before .before .before .before .before .before .before .before .before .before .before .tag .given .1) (c .before .before .before .before .before .before .before .before .before .before .before .before .before .before .if1 .left) (c .before .before .before .before .before .before .before .before .before .before .before .interpret-mark .ensures) (c .before .before .before .before .before .before .before .render-runs .ensures) (c .before .before .interpret-mark2 .ensures)
 
 same-length-2 : tie.Need-same-length-2
 same-length-2 c = kept (returns-3 c)
@@ -75,12 +78,12 @@ render-anchor-spec =
     interpret-requires
     same-length
     returns-2
-    sub-interpret-2
-    part-interpret-start-2
-    part-interpret-end-2
-    interpret-requires-2
+    sub-interpret-mark
+    part-interpret-mark-start
+    part-interpret-mark-end
+    interpret-mark-requires
     render-runs-requires
-    slice-aggregate-interpret
-    interpret-requires-3
+    slice-aggregate-interpret-mark
+    interpret-mark-requires-2
     same-length-2
     returns-3)

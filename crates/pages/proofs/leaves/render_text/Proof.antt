@@ -2,6 +2,7 @@
 use mathlib.Core.Logic.{⊎-elim}
 use native.Mathlib.Omega.{arith}
 use Rattle.styles.proofs.Reading.{whole-inside}
+use Rattle.pages.specs.Ran.{IsMark}
 use Rattle.pages.proofs.Running.{kept, pushed-styles}
 use Rattle.pages.proofs.LeafLaws.{no-text, plain-text, cut-text, styled-text}
 use borrow.Author.Needs.{needs}
@@ -44,17 +45,18 @@ enum-known-t c = search needs
 returns-3 : tie.Need-returns-3
 returns-3 c = cut-text _ (c .before .before .before .before .before .before .field-at .ensures) (c .before .before .before .before .tag .given .1) (c .before .before .if1 .left) (c .before .field-at2 .ensures) (λ t from to e. ⊎-elim (λ k. omega arith) (λ k. omega arith) (rw e at (c .match2 .keys2)))
 
-sub-interpret : tie.Need-sub-interpret
-sub-interpret c = whole-inside _ _ _ _ _ _ (c .before .before .before .before .before .before .before .before .before .field-at .ensures) (c .before .before .before .before .before .before .before .tag .given .1) .rising
+sub-interpret-mark : tie.Need-sub-interpret-mark
+sub-interpret-mark c = whole-inside _ _ _ _ _ _ (c .before .before .before .before .before .before .before .before .before .field-at .ensures) (c .before .before .before .before .before .before .before .tag .given .1) .rising
 
-part-interpret-start : tie.Need-part-interpret-start
-part-interpret-start c = whole-inside _ _ _ _ _ _ (c .before .before .before .before .before .before .before .before .before .field-at .ensures) (c .before .before .before .before .before .before .before .tag .given .1) .rising
+part-interpret-mark-start : tie.Need-part-interpret-mark-start
+part-interpret-mark-start c = whole-inside _ _ _ _ _ _ (c .before .before .before .before .before .before .before .before .before .field-at .ensures) (c .before .before .before .before .before .before .before .tag .given .1) .rising
 
-part-interpret-end : tie.Need-part-interpret-end
-part-interpret-end c = whole-inside _ _ _ _ _ _ (c .before .before .before .before .before .before .before .before .before .field-at .ensures) (c .before .before .before .before .before .before .before .tag .given .1) .ends
+part-interpret-mark-end : tie.Need-part-interpret-mark-end
+part-interpret-mark-end c = whole-inside _ _ _ _ _ _ (c .before .before .before .before .before .before .before .before .before .field-at .ensures) (c .before .before .before .before .before .before .before .tag .given .1) .ends
 
-interpret-requires : tie.Need-interpret-requires
-interpret-requires c κs = search needs
+interpret-mark-requires : tie.Need-interpret-mark-requires
+unfolding IsMark
+interpret-mark-requires c κs = (omega (arith, c .before .before .before .before .before .before .before .before .before .before .before .before .before .pre), tt)
 
 sub-render-bytes-2 : tie.Need-sub-render-bytes-2
 sub-render-bytes-2 c = whole-inside _ _ _ _ _ _ (c .before .before .before .before .before .before .before .before .field-at2 .ensures) (c .before .before .before .before .before .before .t .given .1) .rising
@@ -66,22 +68,23 @@ part-render-bytes-end-2 : tie.Need-part-render-bytes-end-2
 part-render-bytes-end-2 c = whole-inside _ _ _ _ _ _ (c .before .before .before .before .before .before .before .before .field-at2 .ensures) (c .before .before .before .before .before .before .t .given .1) .ends
 
 render-bytes-requires-2 : tie.Need-render-bytes-requires-2
-render-bytes-requires-2 c κs = omega (arith, pushed-styles (c .before .before .before .before .interpret .ensures) .indent-kept, c .before .before .before .before .before .before .before .before .before .before .before .before .before .before .before .before .before .before .pre)
+render-bytes-requires-2 c κs = omega (arith, pushed-styles (c .before .before .before .before .interpret-mark .ensures) .indent-kept, c .before .before .before .before .before .before .before .before .before .before .before .before .before .before .before .before .before .before .pre)
 
-sub-interpret-2 : tie.Need-sub-interpret-2
-sub-interpret-2 c = whole-inside _ _ _ _ _ _ (c .before .before .before .before .before .before .before .before .before .before .before .before .before .before .before .before .before .before .before .field-at .ensures) (c .before .before .before .before .before .before .before .before .before .before .before .before .before .before .before .before .before .tag .given .1) .rising
+sub-interpret-mark-2 : tie.Need-sub-interpret-mark-2
+sub-interpret-mark-2 c = whole-inside _ _ _ _ _ _ (c .before .before .before .before .before .before .before .before .before .before .before .before .before .before .before .before .before .before .before .field-at .ensures) (c .before .before .before .before .before .before .before .before .before .before .before .before .before .before .before .before .before .tag .given .1) .rising
 
-part-interpret-start-2 : tie.Need-part-interpret-start-2
-part-interpret-start-2 c = whole-inside _ _ _ _ _ _ (c .before .before .before .before .before .before .before .before .before .before .before .before .before .before .before .before .before .before .before .field-at .ensures) (c .before .before .before .before .before .before .before .before .before .before .before .before .before .before .before .before .before .tag .given .1) .rising
+part-interpret-mark-start-2 : tie.Need-part-interpret-mark-start-2
+part-interpret-mark-start-2 c = whole-inside _ _ _ _ _ _ (c .before .before .before .before .before .before .before .before .before .before .before .before .before .before .before .before .before .before .before .field-at .ensures) (c .before .before .before .before .before .before .before .before .before .before .before .before .before .before .before .before .before .tag .given .1) .rising
 
-part-interpret-end-2 : tie.Need-part-interpret-end-2
-part-interpret-end-2 c = whole-inside _ _ _ _ _ _ (c .before .before .before .before .before .before .before .before .before .before .before .before .before .before .before .before .before .before .before .field-at .ensures) (c .before .before .before .before .before .before .before .before .before .before .before .before .before .before .before .before .before .tag .given .1) .ends
+part-interpret-mark-end-2 : tie.Need-part-interpret-mark-end-2
+part-interpret-mark-end-2 c = whole-inside _ _ _ _ _ _ (c .before .before .before .before .before .before .before .before .before .before .before .before .before .before .before .before .before .before .before .field-at .ensures) (c .before .before .before .before .before .before .before .before .before .before .before .before .before .before .before .before .before .tag .given .1) .ends
 
-interpret-requires-2 : tie.Need-interpret-requires-2
-interpret-requires-2 c κs = omega (arith, c .before .before .before .before .render-bytes2 .ensures .indent-kept, pushed-styles (c .before .before .before .before .before .before .before .before .before .interpret .ensures) .indent-kept, c .before .before .before .before .before .before .before .before .before .before .before .before .before .before .before .before .before .before .before .before .before .before .before .pre)
+interpret-mark-requires-2 : tie.Need-interpret-mark-requires-2
+unfolding IsMark
+interpret-mark-requires-2 c κs = (omega (arith, c .before .before .before .before .render-bytes2 .ensures .indent-kept, pushed-styles (c .before .before .before .before .before .before .before .before .before .interpret-mark .ensures) .indent-kept, c .before .before .before .before .before .before .before .before .before .before .before .before .before .before .before .before .before .before .before .before .before .before .before .pre), tt)
 
 returns-4 : tie.Need-returns-4
-returns-4 c = styled-text _ (c .before .before .before .before .before .before .before .before .before .before .before .before .before .before .before .before .before .before .before .before .before .before .before .field-at .ensures) (c .before .before .before .before .before .before .before .before .before .before .before .before .before .before .before .before .before .before .before .before .before .tag .given .1) (c .before .before .before .before .before .before .before .before .before .before .before .before .before .before .before .before .before .before .before .if1 .left) (c .before .before .before .before .before .before .before .before .before .before .before .before .before .before .before .before .before .before .field-at2 .ensures) (c .before .before .before .before .before .before .before .before .before .before .before .before .before .before .before .before .t .given .1) (c .before .before .before .before .before .before .before .before .before .before .before .before .interpret .ensures) (c .before .before .before .before .before .before .before .render-bytes2 .ensures) (c .before .before .interpret2 .ensures)
+returns-4 c = styled-text _ (c .before .before .before .before .before .before .before .before .before .before .before .before .before .before .before .before .before .before .before .before .before .before .before .field-at .ensures) (c .before .before .before .before .before .before .before .before .before .before .before .before .before .before .before .before .before .before .before .before .before .tag .given .1) (c .before .before .before .before .before .before .before .before .before .before .before .before .before .before .before .before .before .before .before .if1 .left) (c .before .before .before .before .before .before .before .before .before .before .before .before .before .before .before .before .before .before .field-at2 .ensures) (c .before .before .before .before .before .before .before .before .before .before .before .before .before .before .before .before .t .given .1) (c .before .before .before .before .before .before .before .before .before .before .before .before .interpret-mark .ensures) (c .before .before .before .before .before .before .before .render-bytes2 .ensures) (c .before .before .interpret-mark2 .ensures)
 
 same-length-2 : tie.Need-same-length-2
 same-length-2 c = kept (returns-4 c)
@@ -102,17 +105,17 @@ render-text-spec =
     field-at-requires-2
     enum-known-t
     returns-3
-    sub-interpret
-    part-interpret-start
-    part-interpret-end
-    interpret-requires
+    sub-interpret-mark
+    part-interpret-mark-start
+    part-interpret-mark-end
+    interpret-mark-requires
     sub-render-bytes-2
     part-render-bytes-start-2
     part-render-bytes-end-2
     render-bytes-requires-2
-    sub-interpret-2
-    part-interpret-start-2
-    part-interpret-end-2
-    interpret-requires-2
+    sub-interpret-mark-2
+    part-interpret-mark-start-2
+    part-interpret-mark-end-2
+    interpret-mark-requires-2
     same-length-2
     returns-4)
