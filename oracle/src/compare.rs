@@ -119,10 +119,12 @@ impl Run<'_> {
         let laid_out = answers::layout_outcome(file, checked, width);
         if parts.contains(&Operation::Layout) {
             self.ask(Asked::layout(width, file), laid_out.right())?;
-            // Again at the same width, and at another.
-            for width in [width, generate::width(random, file.len())] {
+            // Again at the same width, unless that is the same request, and at another.
+            if laid_out.lent != file {
                 self.ask_layout(width, &laid_out.lent, checked)?;
             }
+            let other = generate::width(random, file.len());
+            self.ask_layout(other, &laid_out.lent, checked)?;
         }
         // Refused layouts leave the file as it was.
         let shown = if random.one_in(2) {
