@@ -44,6 +44,32 @@ module _ (cost : Item ℕ → ℕ) where
   own-append [] us = omega arith
   own-append (o ∷ os) us = omega (arith, own-append os us)
 
+-- ---- levels
+
+pub target-le : (level : ℕ) (bare : Bool) (k : ℕ) → target level bare k ≤ level
+unfolding target
+target-le level bare k = go (bare && eqb k 0)
+  where
+    go : (b : Bool) → (if b then 0 else level) ≤ level
+    go true = omega arith
+    go false = omega arith
+
+pub broken-level : (i : Bool) (m : Machine) (b : Break) → broken {X = ℕ} i m b .1 .level ≡ m .level
+unfolding broken
+broken-level true m b = refl
+broken-level false m b = refl
+
+pub step-level : (m : Machine) (o : LineOp ℕ) → step m o .1 .level ≤ suc (m .level)
+unfolding step item
+step-level m (part []) = omega arith
+step-level m (part (x ∷ s)) = omega arith
+step-level m (mark k) = omega arith
+step-level m (empty-anchor definition a) = omega arith
+step-level m new-line = omega arith
+step-level m (break b) = omega (arith, broken-level (ignored (m .level) (m .line)) m b)
+step-level m indent = omega arith
+step-level m unindent = omega (arith, pred-le (m .level))
+
 -- ---- what the line machine writes
 
 module _ (cost : Item ℕ → ℕ) (made-1 : (b : ℕ) → cost (char (made b)) ≤ 1) where
@@ -65,14 +91,6 @@ module _ (cost : Item ℕ → ℕ) (made-1 : (b : ℕ) → cost (char (made b)) 
       go : (b : Bool) → cost-all cost (if b then making (10 ∷ replicate (2 * t) 32) else making (replicate (2 * (t - k)) 32)) ≤ 1 + 2 * t
       go true = omega (arith, making-cost (10 ∷ replicate (2 * t) 32), length-replicate {A = ℕ} (2 * t) 32)
       go false = omega (arith, making-cost (replicate (2 * (t - k)) 32), length-replicate {A = ℕ} (2 * (t - k)) 32)
-
-  target-le : (level : ℕ) (bare : Bool) (k : ℕ) → target level bare k ≤ level
-  unfolding target
-  target-le level bare k = go (bare && eqb k 0)
-    where
-      go : (b : Bool) → (if b then 0 else level) ≤ level
-      go true = omega arith
-      go false = omega arith
 
   spacing-cost : (level : ℕ) (bare : Bool) (l : Line) → cost-all cost (spacing level bare l .0) ≤ 1 + 2 * level
   unfolding spacing cost-all
@@ -104,22 +122,6 @@ module _ (cost : Item ℕ → ℕ) (made-1 : (b : ℕ) → cost (char (made b)) 
   step-cost m (break b) = omega (arith, broken-cost (ignored (m .level) (m .line)) m b)
   step-cost m indent = omega arith
   step-cost m unindent = omega arith
-
-  broken-level : (i : Bool) (m : Machine) (b : Break) → broken {X = ℕ} i m b .1 .level ≡ m .level
-  unfolding broken
-  broken-level true m b = refl
-  broken-level false m b = refl
-
-  step-level : (m : Machine) (o : LineOp ℕ) → step m o .1 .level ≤ suc (m .level)
-  unfolding step item
-  step-level m (part []) = omega arith
-  step-level m (part (x ∷ s)) = omega arith
-  step-level m (mark k) = omega arith
-  step-level m (empty-anchor definition a) = omega arith
-  step-level m new-line = omega arith
-  step-level m (break b) = omega (arith, broken-level (ignored (m .level) (m .line)) m b)
-  step-level m indent = omega arith
-  step-level m unindent = omega (arith, pred-le (m .level))
 
   -- the indent is at most the number of operations: 240,002 is 2 and twice 120,000
   pub run-cost : (m : Machine) (os : Ops) → m .level + length os ≤ 120_000 → cost-all cost (run m os) ≤ 240_002 * length os + own-all cost os

@@ -1,11 +1,11 @@
 -- Running operations: one after the other, with the indent kept or not.
 use mathlib.Core.Path.{_≡_, refl, sym, ap, _∙_}
 use mathlib.Core.List.{List, [], _∷_, _++_, append-assoc}
-use mathlib.Core.Bool.{Bool, true, false}
+use mathlib.Core.Bool.{Bool}
 use Prim.Native.Nat.{ℕ, suc, pred}
 use lib.ListN.{length}
 use Rattle.rules.specs.Lines as rules
-use Rattle.rules.specs.Lines.{Machine, Out, Item, char, made, copied, marked, LineOp, part, mark, push, pop, open-anchor, close-anchor, empty-anchor, new-line, break, step, run, item, broken, ignored}
+use Rattle.rules.specs.Lines.{Machine, Out, Item, char, made, copied, marked, LineOp, part, mark, push, pop, open-anchor, close-anchor, empty-anchor, new-line, break, step, run, item, ignored}
 use Rattle.rules.specs.Plain.{chars, fill}
 use Rattle.rules.specs.Html.{escape, item-html, items-html}
 use Rattle.rules.specs.Answers.{itself}
@@ -18,6 +18,7 @@ use Rattle.pages.specs.OpsIn.{Ops}
 use Rattle.pages.specs.Ran.{shown, after, machine, form, indent-of, Ran, Interpreted, Rendered}
 use Rattle.pages.specs.declared.state.Form as F
 use Rattle.pages.specs.declared.pen.Pen.{Pen}
+use Rattle.pages.proofs.ItemCosts.{broken-level}
 
 -- ---- what items show
 
@@ -100,11 +101,6 @@ Quiet new-line = Unit {0}
 Quiet (break b) = Unit {0}
 Quiet rules.indent = ⊥
 Quiet rules.unindent = ⊥
-
-broken-level : (ignored : Bool) (m : Machine) (b : rules.Break) → broken {X = ℕ} ignored m b .1 .level ≡ m .level
-unfolding broken
-broken-level true m b = refl
-broken-level false m b = refl
 
 level-kept : (m : Machine) (o : LineOp ℕ) → Quiet o → step m o .1 .level ≡ m .level
 unfolding step item

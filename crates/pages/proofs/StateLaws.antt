@@ -3,11 +3,10 @@ use mathlib.Core.Path.{_≡_, refl, sym, ap, _∙_}
 use mathlib.Core.List.{List, [], _∷_}
 use mathlib.Core.Option.{none, some}
 use mathlib.Core.Bool.{Bool, true, false}
-use Prim.Native.Nat.{ℕ, zero, suc, _+_, _*_, _/_, _%_, _^_, _<_, _≤_, max, pred}
+use Prim.Native.Nat.{ℕ, zero, suc, _+_, _*_, _/_, _%_, _^_, _<_, _≤_, max}
 use native.Mathlib.Omega.{arith}
-use borrow.Author.Tests.{ne-eqb}
 use Rattle.rules.specs.Lines as rules
-use Rattle.rules.specs.Lines.{Machine, Break, LineOp, part, mark, empty-anchor, new-line, break, step, item, release, spacing, target, broken, ignored}
+use Rattle.rules.specs.Lines.{Machine, Break, LineOp, part, mark, empty-anchor, new-line, break, step, item, release, spacing, broken, ignored}
 use Rattle.lines.specs.declared.LineState as L
 use Rattle.lines.specs.declared.Waiting as W
 use Rattle.lines.specs.declared.Machine as M
@@ -18,6 +17,7 @@ use Rattle.pages.specs.States.{line-numbered, waiting-numbered, form-num
 use Rattle.pages.specs.Ran.{machine, indent-of}
 use Rattle.pages.specs.declared.state.Form as F
 use Rattle.pages.specs.declared.pen.Pen.{Pen}
+use Rattle.pages.proofs.ItemCosts.{target-le, step-level}
 
 -- ---- taken out
 
@@ -137,16 +137,10 @@ unfolding machine-of machine-in
 machine-said n l w e f h =
     (λ i. record { level = n % 65536; line = e i; waiting = f i }, record { fits = omega (arith, ap levels-of e, levels-numbered (n / 524288), h) })
 
-target-low : (level : ℕ) (bare : Bool) (k : ℕ) → target level bare k ≤ level
-unfolding target
-target-low level false k = omega arith
-target-low level true zero = omega arith
-target-low level true (suc k) = rw (ne-eqb (suc k) 0 (λ e. omega (arith, e))) (omega arith)
-
 spacing-low : (level : ℕ) (bare : Bool) (l : rules.Line) → levels-of (spacing {X = ℕ} level bare l .1) ≤ level
 unfolding spacing levels-of
-spacing-low level bare rules.empty = target-low level bare 0
-spacing-low level bare (rules.indented-by k) = target-low level bare k
+spacing-low level bare rules.empty = target-le level bare 0
+spacing-low level bare (rules.indented-by k) = target-le level bare k
 spacing-low level bare rules.has-text = omega arith
 
 broken-low : (ignored : Bool) (m : Machine) (b : Break) → levels-of (broken {X = ℕ} ignored m b .1 .line) ≤ max (levels-of (m .line)) (m .level)
@@ -165,26 +159,6 @@ step-low m (break b) = broken-low (ignored (m .level) (m .line)) m b
 step-low m rules.indent = omega arith
 step-low m rules.unindent = omega arith
 
-broken-near : (ignored : Bool) (m : Machine) (b : Break) → broken {X = ℕ} ignored m b .1 .level ≤ suc (m .level)
-unfolding broken
-broken-near true m b = omega arith
-broken-near false m b = omega arith
-
-pred-le : (n : ℕ) → pred n ≤ suc n
-pred-le zero = omega arith
-pred-le (suc n) = omega arith
-
-step-near : (m : Machine) (o : LineOp ℕ) → step m o .1 .level ≤ suc (m .level)
-unfolding step item
-step-near m (part []) = omega arith
-step-near m (part (x ∷ v)) = omega arith
-step-near m (mark k) = omega arith
-step-near m (empty-anchor d a) = omega arith
-step-near m new-line = omega arith
-step-near m (break b) = broken-near (ignored (m .level) (m .line)) m b
-step-near m rules.indent = omega arith
-step-near m rules.unindent = pred-le (m .level)
-
 -- the code's machine of a pen has the pen's indent
 pub indent-fits : (m : M.Machine) (p : Pen) → indent-of p < 2 ^ 15 → (machine-of m ≡ machine p) × Fits (line-of (m .line)) → m .indent < 2 ^ 32
 unfolding machine-of indent-of
@@ -199,7 +173,7 @@ step-fits op v p m s h e q =
     let level : s .machine .indent ≡ step (machine-of m) o .1 .level = ap (λ (x : Machine). x .level) is in
     let line : levels-of (line-of (s .machine .line)) ≡ levels-of (step (machine-of m) o .1 .line) = ap (λ (x : Machine). levels-of (x .line)) is in
     let indent : m .indent ≡ machine p .level = ap (λ (x : Machine). x .level) (e .0) in
-    (omega (arith, level, step-near (machine-of m) o, indent, h), record { fits = omega (arith, line, step-low (machine-of m) o, indent, h, e .1 .fits) })
+    (omega (arith, level, step-level (machine-of m) o, indent, h), record { fits = omega (arith, line, step-low (machine-of m) o, indent, h, e .1 .fits) })
 
 -- the machine that a page begins with
 pub start-fits : (m : M.Machine) → machine-of m ≡ rules.start → (m .indent < 2 ^ 16) × Fits (line-of (m .line))
