@@ -27,4 +27,3 @@ pub mod Shortest
 pub mod EmSizes
 pub mod Printed
 pub mod Unique
-pub mod Recorded

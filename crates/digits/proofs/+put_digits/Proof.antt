@@ -28,45 +28,11 @@ abbrev put-digits-given : ℕ → put-digits-lts.Claims
 put-digits-given t =
     (last-digit-reads.Asked, last-digit-reads.Learnt, put-reads.Asked, put-reads.Learnt, put-digits-below t, put-digits.Post)
 
-put-digits-last-digit-requires : (t : ℕ) → put-digits-lts.Need-last-digit-requires (put-digits-given t) (put-digits-at t) put-digits.Post
-put-digits-last-digit-requires t c κs = search needs
-
-put-digits-put-requires : (t : ℕ) → put-digits-lts.Need-put-requires (put-digits-given t) (put-digits-at t) put-digits.Post
-put-digits-put-requires t c κs = search needs
-
-put-digits-same-length : (t : ℕ) → put-digits-lts.Need-same-length (put-digits-given t) (put-digits-at t) put-digits.Post
-put-digits-same-length t c = search needs
-
-put-digits-returns : (t : ℕ) → put-digits-lts.Need-returns (put-digits-given t) (put-digits-at t) put-digits.Post
-put-digits-returns t c = one-digit _ (c .before .before .before .last-digit .ensures) (omega arith) (c .before .before .put .ensures)
-
-put-digits-put-digits-requires : (t : ℕ) → put-digits-lts.Need-put-digits-requires (put-digits-given t) (put-digits-at t) put-digits.Post
-put-digits-put-digits-requires t c κs = (omega (arith, c .before .before .before .pre .0), tt)
-
-put-digits-last-digit-requires-2 : (t : ℕ) → put-digits-lts.Need-last-digit-requires-2 (put-digits-given t) (put-digits-at t) put-digits.Post
-put-digits-last-digit-requires-2 t c κs = search needs
-
-put-digits-put-requires-2 : (t : ℕ) → put-digits-lts.Need-put-requires-2 (put-digits-given t) (put-digits-at t) put-digits.Post
-put-digits-put-requires-2 t c κs = search needs
-
-put-digits-same-length-2 : (t : ℕ) → put-digits-lts.Need-same-length-2 (put-digits-given t) (put-digits-at t) put-digits.Post
-put-digits-same-length-2 t c = search needs
-
-put-digits-returns-2 : (t : ℕ) → put-digits-lts.Need-returns-2 (put-digits-given t) (put-digits-at t) put-digits.Post
-put-digits-returns-2 t c =
-    let last = c .before .before in
-    more-digits _ (last .before .last-digit2 .ensures) (omega arith) (last .before .before .before .before .before .put-digits .ensures) (last .put2 .ensures)
-
 pub +put-digits-spec : {M : Type 1} → statement M
-+put-digits-spec = close μ-put-digits λ t. put-digits-lts.spec (put-digits-given t)
-    (put-digits-at t)
-    put-digits.Post
-    (put-digits-last-digit-requires t)
-    (put-digits-put-requires t)
-    (put-digits-same-length t)
-    (put-digits-returns t)
-    (put-digits-put-digits-requires t)
-    (put-digits-last-digit-requires-2 t)
-    (put-digits-put-requires-2 t)
-    (put-digits-same-length-2 t)
-    (put-digits-returns-2 t)
++put-digits-spec =
+    close μ-put-digits λ t. put-digits-lts.spec (put-digits-given t) (put-digits-at t) put-digits.Post (λ c κs. search needs) (λ c κs. search needs)
+    (λ c. search needs)
+    (λ c. one-digit _ (c .before .before .before .last-digit .ensures) (omega arith) (c .before .before .put .ensures))
+    (λ c κs. (omega (arith, c .before .before .before .pre .0), tt)) (λ c κs. search needs) (λ c κs. search needs) (λ c. search needs)
+    (λ c. let last = c .before .before in
+    more-digits _ (last .before .last-digit2 .ensures) (omega arith) (last .before .before .before .before .before .put-digits .ensures) (last .put2 .ensures))

@@ -28,38 +28,11 @@ abbrev put-last-digits-given : ℕ → put-last-digits-lts.Claims
 put-last-digits-given t =
     (put-last-digits-below t, put-last-digits.Post, last-digit-reads.Asked, last-digit-reads.Learnt, put-reads.Asked, put-reads.Learnt)
 
-put-last-digits-returns : (t : ℕ) → put-last-digits-lts.Need-returns (put-last-digits-given t) (put-last-digits-at t) put-last-digits.Post
-put-last-digits-returns t c = no-digits _ _ (c .if1 .taken)
-
-put-last-digits-sub-put-last-digits : (t : ℕ) → put-last-digits-lts.Need-sub-put-last-digits (put-last-digits-given t) (put-last-digits-at t) put-last-digits.Post
-put-last-digits-sub-put-last-digits t c = search needs
-
-put-last-digits-put-last-digits-requires : (t : ℕ) → put-last-digits-lts.Need-put-last-digits-requires (put-last-digits-given t) (put-last-digits-at t) put-last-digits.Post
-put-last-digits-put-last-digits-requires t c κs = (omega (arith, c .before .before .before .pre .0), tt)
-
-put-last-digits-last-digit-requires : (t : ℕ) → put-last-digits-lts.Need-last-digit-requires (put-last-digits-given t) (put-last-digits-at t) put-last-digits.Post
-put-last-digits-last-digit-requires t c κs = search needs
-
-put-last-digits-put-requires : (t : ℕ) → put-last-digits-lts.Need-put-requires (put-last-digits-given t) (put-last-digits-at t) put-last-digits.Post
-put-last-digits-put-requires t c κs = search needs
-
-put-last-digits-same-length : (t : ℕ) → put-last-digits-lts.Need-same-length (put-last-digits-given t) (put-last-digits-at t) put-last-digits.Post
-put-last-digits-same-length t c = search needs
-
-put-last-digits-returns-2 : (t : ℕ) → put-last-digits-lts.Need-returns-2 (put-last-digits-given t) (put-last-digits-at t) put-last-digits.Post
-put-last-digits-returns-2 t c =
-    let last = c .before .before in
-    let before = last .before .before .before .before .before in
-    place-more _ _ (last .before .last-digit .ensures) (before .before .before .if1 .left) (before .put-last-digits .ensures) (last .put .ensures)
-
 pub +put-last-digits-spec : {M : Type 1} → statement M
-+put-last-digits-spec = close μ-put-last-digits λ t. put-last-digits-lts.spec (put-last-digits-given t)
-    (put-last-digits-at t)
-    put-last-digits.Post
-    (put-last-digits-returns t)
-    (put-last-digits-sub-put-last-digits t)
-    (put-last-digits-put-last-digits-requires t)
-    (put-last-digits-last-digit-requires t)
-    (put-last-digits-put-requires t)
-    (put-last-digits-same-length t)
-    (put-last-digits-returns-2 t)
++put-last-digits-spec =
+    close μ-put-last-digits λ t. put-last-digits-lts.spec (put-last-digits-given t) (put-last-digits-at t) put-last-digits.Post
+    (λ c. no-digits _ _ (c .if1 .taken)) (λ c. search needs)
+    (λ c κs. (omega (arith, c .before .before .before .pre .0), tt)) (λ c κs. search needs) (λ c κs. search needs) (λ c. search needs)
+    (λ c. let last = c .before .before in
+    let before = last .before .before .before .before .before in
+    place-more _ _ (last .before .last-digit .ensures) (before .before .before .if1 .left) (before .put-last-digits .ensures) (last .put .ensures))

@@ -13,21 +13,7 @@ Inv-loop n places whole₀ cut₀ whole cut = (cut ≤ places) × (whole ≡ n /
 abbrev μ-loop : tie.MeasureT-loop
 μ-loop n places whole₀ cut₀ whole cut = places - cut
 
-loop-holds : tie.Need-loop-holds Inv-loop μ-loop
-loop-holds c = (search needs, none-cut _)
-
-add-cut : tie.Need-add-cut Inv-loop μ-loop
-add-cut c = search needs
-
-loop-less : tie.Need-loop-less Inv-loop μ-loop
-loop-less c = search needs
-
-loop-again : tie.Need-loop-again Inv-loop μ-loop
-loop-again c = (search needs, one-more-cut _ _ (c .before .loop .inv .1))
-
-returns : tie.Need-returns Inv-loop μ-loop
-returns c = all-cut _ (c .before .loop .inv .1) (omega arith)
-
 pub before-point-spec : {M : Type 1} → statement M
 before-point-spec =
-    tie.close (tie.spec Inv-loop μ-loop loop-holds add-cut loop-less loop-again returns)
+    tie.close (tie.spec Inv-loop μ-loop (λ c. (search needs, none-cut _)) (λ c. search needs) (λ c. search needs)
+    (λ c. (search needs, one-more-cut _ _ (c .before .loop .inv .1))) (λ c. all-cut _ (c .before .loop .inv .1) (omega arith)))

@@ -4,17 +4,6 @@ use Rattle.digits.proofs.Figures.{low-digit, high-digit}
 use Rattle.digits.proofs.hex_digit.Statement.{statement}
 use Rattle.digits.proofs.hex_digit.Tie as tie
 
-add-result : tie.Need-add-result
-add-result c = search needs
-
-returns : tie.Need-returns
-returns c = low-digit _ (c .if1 .taken)
-
-add-result-2 : tie.Need-add-result-2
-add-result-2 c = search needs
-
-returns-2 : tie.Need-returns-2
-returns-2 c = high-digit _ (c .if1 .left)
-
 pub hex-digit-spec : {M : Type 1} → statement M
-hex-digit-spec = tie.close (tie.spec add-result returns add-result-2 returns-2)
+hex-digit-spec =
+    tie.close (tie.spec (λ c. search needs) (λ c. low-digit _ (c .if1 .taken)) (λ c. search needs) (λ c. high-digit _ (c .if1 .left)))

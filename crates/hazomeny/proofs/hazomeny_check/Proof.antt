@@ -7,14 +7,8 @@ use Rattle.rules.proofs.Refused.{coded-check}
 use Rattle.hazomeny.proofs.hazomeny_check.Statement.{statement}
 use Rattle.hazomeny.proofs.hazomeny_check.Tie as tie
 
-check-file-requires : tie.Need-check-file-requires
-check-file-requires c κs = search needs
-
-in-one-requires : tie.Need-in-one-requires
-in-one-requires c κs = subst (λ x. coded x < 2 ^ 64) (sym (c .check-file .ensures)) (coded-check _)
-
-returns : tie.Need-returns
-returns c = c .in-one .ensures ∙ ap coded (c .before .check-file .ensures)
-
 pub hazomeny-check-spec : {M : Type 1} → statement M
-hazomeny-check-spec = tie.close (tie.spec check-file-requires in-one-requires returns)
+hazomeny-check-spec =
+    tie.close (tie.spec (λ c κs. search needs)
+    (λ c κs. subst (λ x. coded x < 2 ^ 64) (sym (c .check-file .ensures)) (coded-check _))
+    (λ c. c .in-one .ensures ∙ ap coded (c .before .check-file .ensures)))

@@ -11,20 +11,11 @@ use Rattle.hazomeny.proofs.Fits.{coded-body, coded-pair}
 use Rattle.hazomeny.proofs.hazomeny_html_body.Statement.{statement}
 use Rattle.hazomeny.proofs.hazomeny_html_body.Tie as tie
 
-html-body-requires : tie.Need-html-body-requires
-html-body-requires c κs = search needs
-
-in-one-requires : tie.Need-in-one-requires
-in-one-requires c κs =
-    let file : List ℕ = c .before .before .before .before .before .before .args .file .now in
-    subst (λ (x : Result ℕ). coded x < 2 ^ 64) (sym (ap (λ (x : Result ℕ × List ℕ). x .0) (c .before .before .html-body .ensures)))
-    (coded-body file _ (every-byte file (λ i. omega (arith, c .before .before .before .before .before .shared-slice-known .given i))))
-
-same-length : tie.Need-same-length
-same-length c = search needs
-
-returns : tie.Need-returns
-returns c = coded-pair _ (c .in-one .ensures) (c .before .before .before .html-body .ensures)
-
 pub hazomeny-html-body-spec : {M : Type 1} → statement M
-hazomeny-html-body-spec = tie.close (tie.spec html-body-requires in-one-requires same-length returns)
+hazomeny-html-body-spec =
+    tie.close (tie.spec (λ c κs. search needs)
+    (λ c κs. let file : List ℕ = c .before .before .before .before .before .before .args .file .now in
+    subst (λ (x : Result ℕ). coded x < 2 ^ 64) (sym (ap (λ (x : Result ℕ × List ℕ). x .0) (c .before .before .html-body .ensures)))
+    (coded-body file _ (every-byte file (λ i. omega (arith, c .before .before .before .before .before .shared-slice-known .given i)))))
+    (λ c. search needs)
+    (λ c. coded-pair _ (c .in-one .ensures) (c .before .before .before .html-body .ensures)))

@@ -9,18 +9,9 @@ use Rattle.hazomeny.proofs.Fits.{coded-layout, coded-pair}
 use Rattle.hazomeny.proofs.hazomeny_layout.Statement.{statement}
 use Rattle.hazomeny.proofs.hazomeny_layout.Tie as tie
 
-layout-file-requires : tie.Need-layout-file-requires
-layout-file-requires c κs = search needs
-
-in-one-requires : tie.Need-in-one-requires
-in-one-requires c κs = subst (λ (x : Result ℕ). coded x < 2 ^ 64) (sym (ap (λ (x : Result ℕ × List ℕ). x .0) (c .before .before .layout-file .ensures))) (coded-layout _ _)
-
-same-length : tie.Need-same-length
-same-length c = search needs
-
-returns : tie.Need-returns
-returns c = coded-pair _ (c .in-one .ensures) (c .before .before .before .layout-file .ensures)
-
 pub hazomeny-layout-spec : {M : Type 1} → statement M
 hazomeny-layout-spec =
-    tie.close (tie.spec layout-file-requires in-one-requires same-length returns)
+    tie.close (tie.spec (λ c κs. search needs)
+    (λ c κs. subst (λ (x : Result ℕ). coded x < 2 ^ 64) (sym (ap (λ (x : Result ℕ × List ℕ). x .0) (c .before .before .layout-file .ensures))) (coded-layout _ _))
+    (λ c. search needs)
+    (λ c. coded-pair _ (c .in-one .ensures) (c .before .before .before .layout-file .ensures)))

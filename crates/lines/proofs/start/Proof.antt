@@ -5,9 +5,7 @@ use Rattle.lines.specs.Said.{line-of, waiting-of, machine-of}
 use Rattle.lines.proofs.start.Statement.{statement}
 use Rattle.lines.proofs.start.Tie as tie
 
-returns : tie.Need-returns
-unfolding machine-of line-of waiting-of rules.start
-returns c = refl
-
 pub start-spec : {M : Type 1} → statement M
-start-spec = tie.close (tie.spec returns)
+start-spec =
+    tie.close (tie.spec
+    (λ c. unfold machine-of line-of waiting-of rules.start in refl))

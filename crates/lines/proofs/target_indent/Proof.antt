@@ -4,14 +4,8 @@ use Rattle.lines.proofs.Spaces.{target-none, target-levels, target-inde
 use Rattle.lines.proofs.target_indent.Statement.{statement}
 use Rattle.lines.proofs.target_indent.Tie as tie
 
-returns : tie.Need-returns
-returns c = target-none _ _ (c .before .if1 .taken) (c .if2 .taken) refl
-
-returns-2 : tie.Need-returns-2
-returns-2 c = target-levels _ _ (c .before .if1 .taken) (c .if2 .left) refl
-
-returns-3 : tie.Need-returns-3
-returns-3 c = target-indent _ _ (c .if1 .left) refl
-
 pub target-indent-spec : {M : Type 1} → statement M
-target-indent-spec = tie.close (tie.spec returns returns-2 returns-3)
+target-indent-spec =
+    tie.close (tie.spec
+    (λ c. target-none _ _ (c .before .if1 .taken) (c .if2 .taken) refl)
+    (λ c. target-levels _ _ (c .before .if1 .taken) (c .if2 .left) refl) (λ c. target-indent _ _ (c .if1 .left) refl))

@@ -4,8 +4,5 @@ use Rattle.lines.proofs.Steps.{only-break}
 use Rattle.lines.proofs.without_item.Statement.{statement}
 use Rattle.lines.proofs.without_item.Tie as tie
 
-returns : tie.Need-returns
-returns c = only-break _ _ refl
-
 pub without-item-spec : {M : Type 1} → statement M
-without-item-spec = tie.close (tie.spec returns)
+without-item-spec = tie.close (tie.spec (λ c. only-break _ _ refl))

@@ -4,9 +4,5 @@ use Rattle.shapes.specs.Shapes.{is-block}
 use Rattle.shapes.proofs.is_block.Statement.{statement}
 use Rattle.shapes.proofs.is_block.Tie as tie
 
-returns : tie.Need-returns
-unfolding is-block
-returns c = refl
-
 pub is-block-spec : {M : Type 1} → statement M
-is-block-spec = tie.close (tie.spec returns)
+is-block-spec = tie.close (tie.spec (λ c. unfold is-block in refl))

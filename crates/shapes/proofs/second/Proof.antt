@@ -5,12 +5,5 @@ use borrow.Author.Needs.{needs}
 use Rattle.shapes.proofs.second.Statement.{statement}
 use Rattle.shapes.proofs.second.Tie as tie
 
-cast-result : tie.Need-cast-result
-cast-result c = search needs
-
-returns : tie.Need-returns
-unfolding second
-returns c = refl
-
 pub second-spec : {M : Type 1} → statement M
-second-spec = tie.close (tie.spec cast-result returns)
+second-spec = tie.close (tie.spec (λ c. search needs) (λ c. unfold second in refl))

@@ -12,8 +12,7 @@ entry-requires : tie.Need-entry-requires
 unfolding all-open place-of decimal-at same test
 entry-requires c κs = (tested _ _ tt, search needs)
 
-returns : tie.Need-returns
-returns c = rw (passed (c .before .before .before .fits .size)) at (c .entry .ensures)
-
 pub em-spec : {M : Type 1} → statement M
-em-spec = tie.close (tie.spec entry-requires returns)
+em-spec =
+    tie.close (tie.spec entry-requires
+    (λ c. rw (passed (c .before .before .before .fits .size)) at (c .entry .ensures)))

@@ -3,17 +3,7 @@ use Rattle.sizes.proofs.Placing.{widened-fits, sum-fits, stored-fits, s
 use Rattle.sizes.proofs.place.Statement.{statement}
 use Rattle.sizes.proofs.place.Tie as tie
 
-cast-result : tie.Need-cast-result
-cast-result c = widened-fits (c .fits .size) (c .pre)
-
-add-result : tie.Need-add-result
-add-result c = sum-fits (c .fits .size) (c .pre)
-
-cast-result-2 : tie.Need-cast-result-2
-cast-result-2 c = stored-fits (c .fits .size) (c .pre)
-
-returns : tie.Need-returns
-returns c = stored-is (c .fits .size) (c .pre)
-
 pub place-spec : {M : Type 1} → statement M
-place-spec = tie.close (tie.spec cast-result add-result cast-result-2 returns)
+place-spec =
+    tie.close (tie.spec (λ c. widened-fits (c .fits .size) (c .pre)) (λ c. sum-fits (c .fits .size) (c .pre)) (λ c. stored-fits (c .fits .size) (c .pre))
+    (λ c. stored-is (c .fits .size) (c .pre)))

@@ -7,21 +7,10 @@ use Rattle.styles.proofs.Sizes.{own-size, script-size, no-size}
 use Rattle.styles.proofs.effective.Statement.{statement}
 use Rattle.styles.proofs.effective.Tie as tie
 
-returns : tie.Need-returns
-unfolding or-zero
-returns c = toZ-ofZ w8 _ (record { sfits = c .struct-told .given .1 .1 .1 .1 .1 .1 .1 .0 .1 }) ∙ sym (ap or-zero (own-size _ (c .before .if1 .taken)))
-
-returns-2 : tie.Need-returns-2
-unfolding or-zero
-returns-2 c = sym (ap or-zero (script-size _ (c .before .if1 .left) (rw (c .if2 .taken))))
-
-returns-3 : tie.Need-returns-3
-unfolding or-zero
-returns-3 c = sym (ap or-zero (script-size _ (c .before .before .if1 .left) (rw (c .before .if2 .left, c .if3 .taken))))
-
-returns-4 : tie.Need-returns-4
-unfolding or-zero
-returns-4 c = sym (ap or-zero (no-size _ (c .before .before .if1 .left) (rw (c .before .if2 .left, c .if3 .left))))
-
 pub effective-spec : {M : Type 1} → statement M
-effective-spec = tie.close (tie.spec returns returns-2 returns-3 returns-4)
+effective-spec =
+    tie.close (tie.spec
+    (λ c. unfold or-zero in toZ-ofZ w8 _ (record { sfits = c .struct-told .given .1 .1 .1 .1 .1 .1 .1 .0 .1 }) ∙ sym (ap or-zero (own-size _ (c .before .if1 .taken))))
+    (λ c. unfold or-zero in sym (ap or-zero (script-size _ (c .before .if1 .left) (rw (c .if2 .taken)))))
+    (λ c. unfold or-zero in sym (ap or-zero (script-size _ (c .before .before .if1 .left) (rw (c .before .if2 .left, c .if3 .taken)))))
+    (λ c. unfold or-zero in sym (ap or-zero (no-size _ (c .before .before .if1 .left) (rw (c .before .if2 .left, c .if3 .left))))))

@@ -5,9 +5,5 @@ use Rattle.styles.specs.StylesIn.{no-styles}
 use Rattle.styles.proofs.none.Statement.{statement}
 use Rattle.styles.proofs.none.Tie as tie
 
-returns : tie.Need-returns
-unfolding said-styles flagged no-styles
-returns c = refl
-
 pub none-spec : {M : Type 1} → statement M
-none-spec = tie.close (tie.spec returns)
+none-spec = tie.close (tie.spec (λ c. unfold said-styles flagged no-styles in refl))

@@ -5,12 +5,7 @@ use borrow.Author.Needs.{needs}
 use Rattle.styles.proofs.opacity_bits.Statement.{statement}
 use Rattle.styles.proofs.opacity_bits.Tie as tie
 
-float-to-bits-result : tie.Need-float-to-bits-result
-unfolding said-styles flagged
-float-to-bits-result c = right-number _ (rw (c .pre .0) at (c .pre .1))
-
-returns : tie.Need-returns
-returns c = search needs
-
 pub opacity-bits-spec : {M : Type 1} → statement M
-opacity-bits-spec = tie.close (tie.spec float-to-bits-result returns)
+opacity-bits-spec =
+    tie.close (tie.spec
+    (λ c. unfold said-styles flagged in right-number _ (rw (c .pre .0) at (c .pre .1))) (λ c. search needs))

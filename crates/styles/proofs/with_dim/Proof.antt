@@ -7,13 +7,8 @@ use Rattle.styles.proofs.Parts.{passed-over, put-in}
 use Rattle.styles.proofs.with_dim.Statement.{statement}
 use Rattle.styles.proofs.with_dim.Tie as tie
 
-returns : tie.Need-returns
-unfolding right-value right-length
-returns c = passed-over _ 38 _ (ne-eqb _ 0 (c .if1 .taken))
-
-returns-2 : tie.Need-returns-2
-unfolding said-styles put-part right-value right-length
-returns-2 c = put-in _ 38 _ (eq-eqb _ 0 (c .if1 .left))
-
 pub with-dim-spec : {M : Type 1} → statement M
-with-dim-spec = tie.close (tie.spec returns returns-2)
+with-dim-spec =
+    tie.close (tie.spec
+    (λ c. unfold right-value right-length in passed-over _ 38 _ (ne-eqb _ 0 (c .if1 .taken)))
+    (λ c. unfold said-styles put-part right-value right-length in put-in _ 38 _ (eq-eqb _ 0 (c .if1 .left))))

@@ -10,20 +10,8 @@ use borrow.Author.Needs.{needs}
 use Rattle.styles.proofs.with_thickness.Statement.{statement}
 use Rattle.styles.proofs.with_thickness.Tie as tie
 
-returns : tie.Need-returns
-unfolding right-value right-length
-returns c = passed-over _ 34 _ (ne-eqb _ 1 (c .if1 .taken))
-
-shared-slice-read-signed-byte : tie.Need-shared-slice-read-signed-byte
-shared-slice-read-signed-byte c = search needs
-
-signed-byte-requires : tie.Need-signed-byte-requires
-signed-byte-requires c κs = search needs
-
-returns-2 : tie.Need-returns-2
-unfolding said-styles flagged put-part right-value right-length signed-byte
-returns-2 c = rw (c .signed-byte .ensures, number-one _ (c .before .before .if1 .left)) (put-in _ 34 _ (eq-eqb _ 1 (c .before .before .if1 .left)))
-
 pub with-thickness-spec : {M : Type 1} → statement M
 with-thickness-spec =
-    tie.close (tie.spec returns shared-slice-read-signed-byte signed-byte-requires returns-2)
+    tie.close (tie.spec
+    (λ c. unfold right-value right-length in passed-over _ 34 _ (ne-eqb _ 1 (c .if1 .taken))) (λ c. search needs) (λ c κs. search needs)
+    (λ c. unfold said-styles flagged put-part right-value right-length signed-byte in rw (c .signed-byte .ensures, number-one _ (c .before .before .if1 .left)) (put-in _ 34 _ (eq-eqb _ 1 (c .before .before .if1 .left)))))

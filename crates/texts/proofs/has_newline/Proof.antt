@@ -14,28 +14,10 @@ Inv-loop v found₀ i₀ found i = Looked v i found
 abbrev μ-loop : tie.MeasureT-loop
 μ-loop v found₀ i₀ found i = length v - i
 
-loop-holds : tie.Need-loop-holds Inv-loop μ-loop
-loop-holds c = none-looked _
-
-shared-slice-read-if1 : tie.Need-shared-slice-read-if1 Inv-loop μ-loop
-shared-slice-read-if1 c = search needs
-
-add-i : tie.Need-add-i Inv-loop μ-loop
-add-i c = search needs
-
-loop-less : tie.Need-loop-less Inv-loop μ-loop
-loop-less c = search needs
-
-loop-again : tie.Need-loop-again Inv-loop μ-loop
-loop-again c =
-    let turn = c .before .before in
-    ⊎-elim (λ h. there (turn .before .loop .inv) (omega arith) (h .0 .taken) (h .1))
-    (λ h. not-there (turn .before .loop .inv) (omega arith) (h .0 .left) (h .1)) (c .if1 .came)
-
-returns : tie.Need-returns Inv-loop μ-loop
-returns c = all-looked (c .before .loop .inv) (omega arith)
-
 pub has-newline-spec : {M : Type 1} → statement M
 has-newline-spec =
-    tie.close
-    (tie.spec Inv-loop μ-loop loop-holds shared-slice-read-if1 add-i loop-less loop-again returns)
+    tie.close (tie.spec Inv-loop μ-loop (λ c. none-looked _) (λ c. search needs) (λ c. search needs) (λ c. search needs)
+    (λ c. let turn = c .before .before in
+    ⊎-elim (λ h. there (turn .before .loop .inv) (omega arith) (h .0 .taken) (h .1))
+    (λ h. not-there (turn .before .loop .inv) (omega arith) (h .0 .left) (h .1)) (c .if1 .came))
+    (λ c. all-looked (c .before .loop .inv) (omega arith)))

@@ -14,34 +14,8 @@ Inv-loop s all₀ i₀ all i = (i ≤ length s) × (bits-with all (drop i s) ≡
 abbrev μ-loop : tie.MeasureT-loop
 μ-loop s all₀ i₀ all i = length s - i
 
-loop-holds : tie.Need-loop-holds Inv-loop μ-loop
-unfolding all-bits
-loop-holds c = (search needs, refl)
-
-shared-slice-read-all : tie.Need-shared-slice-read-all Inv-loop μ-loop
-shared-slice-read-all c = search needs
-
-add-i : tie.Need-add-i Inv-loop μ-loop
-add-i c = search needs
-
-loop-less : tie.Need-loop-less Inv-loop μ-loop
-loop-less c = search needs
-
-loop-again : tie.Need-loop-again Inv-loop μ-loop
-loop-again c = (search needs, one-or _ _ _ (c .before .before .loop .inv .1) (c .before .loop-test .taken))
-
-returns : tie.Need-returns Inv-loop μ-loop
-returns c = all-or _ _ _ (c .before .loop .inv .1) (c .loop-test .left)
-
 pub all-bits-spec : {M : Type 1} → statement M
 all-bits-spec =
-    tie.close
-    (tie.spec
-    Inv-loop
-    μ-loop
-    loop-holds
-    shared-slice-read-all
-    add-i
-    loop-less
-    loop-again
-    returns)
+    tie.close (tie.spec Inv-loop μ-loop (λ c. unfold all-bits in (search needs, refl)) (λ c. search needs) (λ c. search needs) (λ c. search needs)
+    (λ c. (search needs, one-or _ _ _ (c .before .before .loop .inv .1) (c .before .loop-test .taken)))
+    (λ c. all-or _ _ _ (c .before .loop .inv .1) (c .loop-test .left)))

@@ -14,41 +14,12 @@ Inv-loop s i₀ i = (i ≤ length s) × (has 34 (drop i s) ≡ has 34 s)
 abbrev μ-loop : tie.MeasureT-loop
 μ-loop s i₀ i = length s - i
 
-loop-holds : tie.Need-loop-holds Inv-loop μ-loop
-loop-holds c = (search needs, refl)
-
-shared-slice-read-if1 : tie.Need-shared-slice-read-if1 Inv-loop μ-loop
-shared-slice-read-if1 c = search needs
-
-returns : tie.Need-returns Inv-loop μ-loop
-returns c =
-    let turn = c .before .before in
-    found _ _ _ (turn .before .loop .inv .1) (turn .loop-test .taken) (c .if1 .taken)
-
-add-i : tie.Need-add-i Inv-loop μ-loop
-add-i c = search needs
-
-loop-less : tie.Need-loop-less Inv-loop μ-loop
-loop-less c = search needs
-
-loop-again : tie.Need-loop-again Inv-loop μ-loop
-loop-again c =
-    let turn = c .before .before in
-    (search needs, passed _ _ _ (turn .before .loop .inv .1) (turn .loop-test .taken) (c .if1 .left))
-
-returns-2 : tie.Need-returns-2 Inv-loop μ-loop
-returns-2 c = not-there _ _ _ (c .before .loop .inv .1) (c .loop-test .left)
-
 pub has-quote-spec : {M : Type 1} → statement M
 has-quote-spec =
-    tie.close
-    (tie.spec
-    Inv-loop
-    μ-loop
-    loop-holds
-    shared-slice-read-if1
-    returns
-    add-i
-    loop-less
-    loop-again
-    returns-2)
+    tie.close (tie.spec Inv-loop μ-loop (λ c. (search needs, refl)) (λ c. search needs)
+    (λ c. let turn = c .before .before in
+    found _ _ _ (turn .before .loop .inv .1) (turn .loop-test .taken) (c .if1 .taken))
+    (λ c. search needs) (λ c. search needs)
+    (λ c. let turn = c .before .before in
+    (search needs, passed _ _ _ (turn .before .loop .inv .1) (turn .loop-test .taken) (c .if1 .left)))
+    (λ c. not-there _ _ _ (c .before .loop .inv .1) (c .loop-test .left)))

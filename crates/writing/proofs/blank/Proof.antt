@@ -13,39 +13,9 @@ Inv-loop to₀ i₀ to i = Copied (replicate (length to₀) 32) (length to₀) t
 abbrev μ-loop : tie.MeasureT-loop
 μ-loop to₀ i₀ to i = length to₀ - i
 
-loop-holds : tie.Need-loop-holds Inv-loop μ-loop
-loop-holds c = none-copied (length-replicate _ _) refl
-
-slice-write-to : tie.Need-slice-write-to Inv-loop μ-loop
-slice-write-to c = search needs
-
-add-i : tie.Need-add-i Inv-loop μ-loop
-add-i c = search needs
-
-loop-less : tie.Need-loop-less Inv-loop μ-loop
-loop-less c = search needs
-
-loop-again : tie.Need-loop-again Inv-loop μ-loop
-loop-again c =
-    let here : c .before .loop .i < length (c .before .before .args .to .now) = search needs in
-    one-more (c .before .loop .inv) here _ (getD-replicate _ _ _ _ here)
-
-same-length : tie.Need-same-length Inv-loop μ-loop
-same-length c = search needs
-
-returns : tie.Need-returns Inv-loop μ-loop
-returns c = all-copied (c .before .loop .inv) (search needs)
-
 pub blank-spec : {M : Type 1} → statement M
 blank-spec =
-    tie.close
-    (tie.spec
-    Inv-loop
-    μ-loop
-    loop-holds
-    slice-write-to
-    add-i
-    loop-less
-    loop-again
-    same-length
-    returns)
+    tie.close (tie.spec Inv-loop μ-loop (λ c. none-copied (length-replicate _ _) refl) (λ c. search needs) (λ c. search needs) (λ c. search needs)
+    (λ c. let here : c .before .loop .i < length (c .before .before .args .to .now) = search needs in
+    one-more (c .before .loop .inv) here _ (getD-replicate _ _ _ _ here))
+    (λ c. search needs) (λ c. all-copied (c .before .loop .inv) (search needs)))

@@ -4,9 +4,5 @@ use Rattle.layout.specs.Said.{said}
 use Rattle.layout.proofs.choice.laid_out.Statement.{statement}
 use Rattle.layout.proofs.choice.laid_out.Tie as tie
 
-returns : tie.Need-returns
-unfolding said
-returns c = refl
-
 pub laid-out-spec : {M : Type 1} → statement M
-laid-out-spec = tie.close (tie.spec returns)
+laid-out-spec = tie.close (tie.spec (λ c. unfold said in refl))

@@ -5,19 +5,8 @@ use borrow.Author.Needs.{needs}
 use Rattle.layout.proofs.stretch.behind.Statement.{statement}
 use Rattle.layout.proofs.stretch.behind.Tie as tie
 
-block-or-mixed-requires : tie.Need-block-or-mixed-requires
-block-or-mixed-requires c κs = search needs
-
-append-requires : tie.Need-append-requires
-append-requires c κs = search needs
-
-returns : tie.Need-returns
-unfolding said-stretch
-returns c = behind-block _ _ _ (c .before .before .if1 .taken) (c .before .block-or-mixed .ensures) (c .append .ensures)
-
-returns-2 : tie.Need-returns-2
-unfolding said-stretch
-returns-2 c = behind-other _ _ _ (c .if1 .left)
-
 pub behind-spec : {M : Type 1} → statement M
-behind-spec = tie.close (tie.spec block-or-mixed-requires append-requires returns returns-2)
+behind-spec =
+    tie.close (tie.spec (λ c κs. search needs) (λ c κs. search needs)
+    (λ c. unfold said-stretch in behind-block _ _ _ (c .before .before .if1 .taken) (c .before .block-or-mixed .ensures) (c .append .ensures))
+    (λ c. unfold said-stretch in behind-other _ _ _ (c .if1 .left)))

@@ -5,16 +5,7 @@ use Rattle.layout.proofs.StretchLaws.{enters, goes-on}
 use Rattle.layout.proofs.stretch.entered.Statement.{statement}
 use Rattle.layout.proofs.stretch.entered.Tie as tie
 
-ahead-requires : tie.Need-ahead-requires
-ahead-requires c κs = search needs
-
-returns : tie.Need-returns
-unfolding said-stretch
-returns c = enters _ _ _ (c .before .if1 .taken) (c .ahead .ensures)
-
-returns-2 : tie.Need-returns-2
-unfolding said-stretch
-returns-2 c = goes-on _ _ _ (c .if1 .left)
-
 pub entered-spec : {M : Type 1} → statement M
-entered-spec = tie.close (tie.spec ahead-requires returns returns-2)
+entered-spec =
+    tie.close (tie.spec (λ c κs. search needs)
+    (λ c. unfold said-stretch in enters _ _ _ (c .before .if1 .taken) (c .ahead .ensures)) (λ c. unfold said-stretch in goes-on _ _ _ (c .if1 .left)))

@@ -7,31 +7,12 @@ use Rattle.markup.proofs.Joins.{done, _▸_, one-text}
 use Rattle.markup.proofs.css.put_weight.Statement.{statement}
 use Rattle.markup.proofs.css.put_weight.Tie as tie
 
-returns : tie.Need-returns
-returns c = one-text (no-weight _ (not-true _ (c .if1 .taken))) done
-
-slice-aggregate-put-bytes : tie.Need-slice-aggregate-put-bytes
-slice-aggregate-put-bytes c = search needs
-
-put-bytes-requires : tie.Need-put-bytes-requires
-put-bytes-requires c κs = search needs
-
-weight-requires : tie.Need-weight-requires
-weight-requires c κs = search needs
-
-put-signed-requires : tie.Need-put-signed-requires
-put-signed-requires c κs = search needs
-
-put-requires : tie.Need-put-requires
-put-requires c κs = search needs
-
-same-length : tie.Need-same-length
-same-length c = search needs
-
-returns-2 : tie.Need-returns-2
-unfolding ascii
-returns-2 c =
-    let third = c .before .before in
+pub put-weight-spec : {M : Type 1} → statement M
+put-weight-spec =
+    tie.close (tie.spec
+    (λ c. one-text (no-weight _ (not-true _ (c .if1 .taken))) done) (λ c. search needs) (λ c κs. search needs) (λ c κs. search needs)
+    (λ c κs. search needs) (λ c κs. search needs) (λ c. search needs)
+    (λ c. unfold ascii in let third = c .before .before in
     let second = third .before .before .before .before in
     let call = second .before in
     let told = call .before in
@@ -39,17 +20,4 @@ returns-2 c =
     let test = first .before .before .before in
     let thickness = told .struct-told .given .1 .1 .1 .1 .1 .0 .1 in
     one-text (weight-text _ (not-false _ (test .if1 .left)) (record { sfits = thickness }) (record { sfits = call .weight .ok }) (call .weight .ensures))
-    (first .put-bytes .ensures ▸ second .put-signed .ensures ▸ third .put .ensures ▸ done)
-
-pub put-weight-spec : {M : Type 1} → statement M
-put-weight-spec =
-    tie.close
-    (tie.spec
-    returns
-    slice-aggregate-put-bytes
-    put-bytes-requires
-    weight-requires
-    put-signed-requires
-    put-requires
-    same-length
-    returns-2)
+    (first .put-bytes .ensures ▸ second .put-signed .ensures ▸ third .put .ensures ▸ done)))

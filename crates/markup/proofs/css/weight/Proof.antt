@@ -3,17 +3,7 @@ use Rattle.markup.proofs.WeightLaws.{held-fits, hundreds-fit, sum-fits,
 use Rattle.markup.proofs.css.weight.Statement.{statement}
 use Rattle.markup.proofs.css.weight.Tie as tie
 
-cast-result : tie.Need-cast-result
-cast-result c = held-fits (c .fits .thickness)
-
-mul-result : tie.Need-mul-result
-mul-result c = hundreds-fit (c .fits .thickness)
-
-add-result : tie.Need-add-result
-add-result c = sum-fits (c .fits .thickness)
-
-returns : tie.Need-returns
-returns c = weight-is (c .fits .thickness)
-
 pub weight-spec : {M : Type 1} → statement M
-weight-spec = tie.close (tie.spec cast-result mul-result add-result returns)
+weight-spec =
+    tie.close (tie.spec (λ c. held-fits (c .fits .thickness)) (λ c. hundreds-fit (c .fits .thickness)) (λ c. sum-fits (c .fits .thickness))
+    (λ c. weight-is (c .fits .thickness)))

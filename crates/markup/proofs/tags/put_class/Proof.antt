@@ -6,25 +6,10 @@ use Rattle.markup.proofs.Joins.{done, _▸_, one-text}
 use Rattle.markup.proofs.tags.put_class.Statement.{statement}
 use Rattle.markup.proofs.tags.put_class.Tie as tie
 
-slice-aggregate-put-bytes : tie.Need-slice-aggregate-put-bytes
-slice-aggregate-put-bytes c = search needs
-
-put-bytes-requires : tie.Need-put-bytes-requires
-put-bytes-requires c κs = search needs
-
-same-length : tie.Need-same-length
-same-length c = search needs
-
-returns : tie.Need-returns
-unfolding ascii
-returns c =
-    let put = c .before .before in
-    let test = put .before .before .before in
-    one-text (class-text _ (test .if1 .taken)) (put .put-bytes .ensures ▸ done)
-
-returns-2 : tie.Need-returns-2
-returns-2 c = one-text (no-class _ (c .if1 .left)) done
-
 pub put-class-spec : {M : Type 1} → statement M
 put-class-spec =
-    tie.close (tie.spec slice-aggregate-put-bytes put-bytes-requires same-length returns returns-2)
+    tie.close (tie.spec (λ c. search needs) (λ c κs. search needs) (λ c. search needs)
+    (λ c. unfold ascii in let put = c .before .before in
+    let test = put .before .before .before in
+    one-text (class-text _ (test .if1 .taken)) (put .put-bytes .ensures ▸ done))
+    (λ c. one-text (no-class _ (c .if1 .left)) done))

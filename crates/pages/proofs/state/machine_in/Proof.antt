@@ -5,14 +5,7 @@ use borrow.Author.Needs.{needs}
 use Rattle.pages.proofs.state.machine_in.Statement.{statement}
 use Rattle.pages.proofs.state.machine_in.Tie as tie
 
-line-numbered-requires : tie.Need-line-numbered-requires
-line-numbered-requires c κs = search needs
-
-waiting-numbered-requires : tie.Need-waiting-numbered-requires
-waiting-numbered-requires c κs = search needs
-
-returns : tie.Need-returns
-returns c = machine-said _ _ _ (c .before .line-numbered .ensures) (c .waiting-numbered .ensures) (omega arith)
-
 pub machine-in-spec : {M : Type 1} → statement M
-machine-in-spec = tie.close (tie.spec line-numbered-requires waiting-numbered-requires returns)
+machine-in-spec =
+    tie.close (tie.spec (λ c κs. search needs) (λ c κs. search needs)
+    (λ c. machine-said _ _ _ (c .before .line-numbered .ensures) (c .waiting-numbered .ensures) (omega arith)))

@@ -4,9 +4,5 @@ use borrow.Author.Needs.{needs}
 use Rattle.pages.proofs.state.nothing_shows.Statement.{statement}
 use Rattle.pages.proofs.state.nothing_shows.Tie as tie
 
-returns : tie.Need-returns
-unfolding quiet
-returns c = search needs
-
 pub nothing-shows-spec : {M : Type 1} → statement M
-nothing-shows-spec = tie.close (tie.spec returns)
+nothing-shows-spec = tie.close (tie.spec (λ c. unfold quiet in search needs))

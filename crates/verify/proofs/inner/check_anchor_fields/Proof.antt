@@ -17,59 +17,14 @@ Inv-loop s base place at₀ before₀ at before = (d : ℕ) → Come (HasName be
 abbrev μ-loop : tie.MeasureT-loop
 μ-loop s base place at₀ before₀ at before = length s - at
 
-loop-holds : tie.Need-loop-holds Inv-loop μ-loop
-loop-holds c = λ d. come-first no-name
-
-add-anchor-field : tie.Need-add-anchor-field Inv-loop μ-loop
-add-anchor-field c = omega (arith, c .before .before .before .pre .room)
-
-anchor-field-requires : tie.Need-anchor-field-requires Inv-loop μ-loop
-anchor-field-requires c κs = field-stands (c .before .before .before .pre) (c .loop-test .taken)
-
-enum-told : tie.Need-enum-told Inv-loop μ-loop
-enum-told c = search needs
-
-enum-told-2 : tie.Need-enum-told-2 Inv-loop μ-loop
-enum-told-2 c = search needs
-
-returns : tie.Need-returns Inv-loop μ-loop
-returns c = λ d. come-stops (c .before .before .before .before .loop .inv d) (c .before .before .before .loop-test .taken) (c .before .before .anchor-field .ensures d) (c .enum-told2 .given .1)
-
-shared-slice-read-before : tie.Need-shared-slice-read-before Inv-loop μ-loop
-shared-slice-read-before c = search needs
-
-field-end-requires : tie.Need-field-end-requires Inv-loop μ-loop
-field-end-requires c κs = omega (arith, come-passes (c .before .before .before .before .before .loop .inv 0) (c .before .before .before .before .loop-test .taken) (c .before .before .before .anchor-field .ensures 0) (c .before .enum-told .given .1) .fits)
-
-loop-less : tie.Need-loop-less Inv-loop μ-loop
-loop-less c = omega (arith, c .field-end .ensures, come-passes (c .before .before .before .before .before .before .loop .inv 0) (c .before .before .before .before .before .loop-test .taken) (c .before .before .before .before .anchor-field .ensures 0) (c .before .before .enum-told .given .1) .fits)
-
-loop-again : tie.Need-loop-again Inv-loop μ-loop
-loop-again c = λ d. come-on (c .before .before .before .before .before .before .loop .inv d) (c .before .before .before .before .before .loop-test .taken) (c .before .before .before .before .anchor-field .ensures d) (c .before .before .enum-told .given .1) (c .field-end .ensures) (HasName _) (λ ts. name-more)
-
-returns-2 : tie.Need-returns-2 Inv-loop μ-loop
-unfolding checked refusal
-returns-2 c = λ d. come-last (c .before .before .loop .inv d) (c .before .loop-test .left) (name-lacks (c .before .before .loop .inv d .keeps) _ (c .if1 .taken))
-
-returns-3 : tie.Need-returns-3 Inv-loop μ-loop
-unfolding checked
-returns-3 c = λ d. come-last (c .before .before .loop .inv d) (c .before .loop-test .left) (name-there (c .before .before .loop .inv d .keeps) _ (c .if1 .left))
-
 pub check-anchor-fields-spec : {M : Type 1} → statement M
 check-anchor-fields-spec =
-    tie.close
-    (tie.spec
-    Inv-loop
-    μ-loop
-    loop-holds
-    add-anchor-field
-    anchor-field-requires
-    enum-told
-    enum-told-2
-    returns
-    shared-slice-read-before
-    field-end-requires
-    loop-less
-    loop-again
-    returns-2
-    returns-3)
+    tie.close (tie.spec Inv-loop μ-loop (λ c. λ d. come-first no-name) (λ c. omega (arith, c .before .before .before .pre .room))
+    (λ c κs. field-stands (c .before .before .before .pre) (c .loop-test .taken)) (λ c. search needs) (λ c. search needs)
+    (λ c. λ d. come-stops (c .before .before .before .before .loop .inv d) (c .before .before .before .loop-test .taken) (c .before .before .anchor-field .ensures d) (c .enum-told2 .given .1))
+    (λ c. search needs)
+    (λ c κs. omega (arith, come-passes (c .before .before .before .before .before .loop .inv 0) (c .before .before .before .before .loop-test .taken) (c .before .before .before .anchor-field .ensures 0) (c .before .enum-told .given .1) .fits))
+    (λ c. omega (arith, c .field-end .ensures, come-passes (c .before .before .before .before .before .before .loop .inv 0) (c .before .before .before .before .before .loop-test .taken) (c .before .before .before .before .anchor-field .ensures 0) (c .before .before .enum-told .given .1) .fits))
+    (λ c. λ d. come-on (c .before .before .before .before .before .before .loop .inv d) (c .before .before .before .before .before .loop-test .taken) (c .before .before .before .before .anchor-field .ensures d) (c .before .before .enum-told .given .1) (c .field-end .ensures) (HasName _) (λ ts. name-more))
+    (λ c. unfold checked refusal in λ d. come-last (c .before .before .loop .inv d) (c .before .loop-test .left) (name-lacks (c .before .before .loop .inv d .keeps) _ (c .if1 .taken)))
+    (λ c. unfold checked in λ d. come-last (c .before .before .loop .inv d) (c .before .loop-test .left) (name-there (c .before .before .loop .inv d .keeps) _ (c .if1 .left))))

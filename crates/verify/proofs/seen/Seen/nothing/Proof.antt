@@ -4,9 +4,5 @@ use Rattle.verify.specs.Seeing.{nothing-seen}
 use Rattle.verify.proofs.seen.Seen.nothing.Statement.{statement}
 use Rattle.verify.proofs.seen.Seen.nothing.Tie as tie
 
-returns : tie.Need-returns
-unfolding nothing-seen
-returns c = refl
-
 pub nothing-spec : {M : Type 1} → statement M
-nothing-spec = tie.close (tie.spec returns)
+nothing-spec = tie.close (tie.spec (λ c. unfold nothing-seen in refl))

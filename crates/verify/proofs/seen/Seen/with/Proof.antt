@@ -4,21 +4,7 @@ use Rattle.verify.specs.Seeing.{seen-with}
 use Rattle.verify.proofs.seen.Seen.with.Statement.{statement}
 use Rattle.verify.proofs.seen.Seen.with.Tie as tie
 
-either-requires : tie.Need-either-requires
-either-requires c κs = search needs
-
-either-requires-2 : tie.Need-either-requires-2
-either-requires-2 c κs = search needs
-
-either-requires-3 : tie.Need-either-requires-3
-either-requires-3 c κs = search needs
-
-either-requires-4 : tie.Need-either-requires-4
-either-requires-4 c κs = search needs
-
-returns : tie.Need-returns
-unfolding seen-with
-returns c = rw (c .before .before .before .either .ensures, c .before .before .either2 .ensures, c .before .either3 .ensures, c .either4 .ensures)
-
 pub with-spec : {M : Type 1} → statement M
-with-spec = tie.close (tie.spec either-requires either-requires-2 either-requires-3 either-requires-4 returns)
+with-spec =
+    tie.close (tie.spec (λ c κs. search needs) (λ c κs. search needs) (λ c κs. search needs) (λ c κs. search needs)
+    (λ c. unfold seen-with in rw (c .before .before .before .either .ensures, c .before .before .either2 .ensures, c .before .either3 .ensures, c .either4 .ensures)))

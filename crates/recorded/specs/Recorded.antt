@@ -1,19 +1,18 @@
--- The Rust's recorded answers on small files, reproduced by the rules: one statement over the list of them, computed.
--- Made by tests/recorded/definitions from the recorded requests and answers.
+-- The Rust's recorded answers on small files, and what it is for the rules to give the same. Made by tests/recorded/definitions from the
+-- recorded requests and answers.
 use mathlib.Core.List.{List, [], _∷_}
 use mathlib.Core.Bool.{Bool, true, false, _&&_}
 use Prim.Native.Nat.{ℕ}
 use Prim.Native.String.{String}
-use lib.Dec.{T, eqb}
+use lib.Dec.{eqb}
 use lib.ListN.{replicate}
 use Rattle.rules.specs.Result.{Result, refused, accepted}
 use Rattle.rules.specs.Answers.{check-answer, layout-outcome, plain-outcome, body-outcome, document-outcome}
 use Rattle.rules.specs.Cases.{unhex}
 use Rattle.rules.specs.Refusals.{Entry, file-check, layout-at, plain-page-of, body-of, document-of}
-use Rattle.rules.proofs.Open.{all-open}
 
 -- an answer and what is left in the lent slice; a page is lent filled with 165
-unfoldable outcome : Entry → List ℕ → Result ℕ × List ℕ
+unfoldable pub outcome : Entry → List ℕ → Result ℕ × List ℕ
 outcome file-check s = (check-answer s, [])
 outcome (layout-at w) s = layout-outcome w s
 outcome (plain-page-of room) s = plain-outcome s (replicate room 165)
@@ -21,37 +20,37 @@ outcome (body-of room) s = body-outcome s (replicate room 165)
 outcome (document-of room) s = document-outcome s (replicate room 165)
 
 -- two answers, and two lists of bytes, are equal
-unfoldable same-answer : Result ℕ → Result ℕ → Bool
+unfoldable pub same-answer : Result ℕ → Result ℕ → Bool
 same-answer (refused n p) (refused m q) = eqb n m && eqb p q
 same-answer (refused n p) (accepted m) = false
 same-answer (accepted n) (refused m q) = false
 same-answer (accepted n) (accepted m) = eqb n m
 
-unfoldable same-bytes : List ℕ → List ℕ → Bool
+unfoldable pub same-bytes : List ℕ → List ℕ → Bool
 same-bytes [] [] = true
 same-bytes [] (b ∷ u) = false
 same-bytes (a ∷ s) [] = false
 same-bytes (a ∷ s) (b ∷ u) = eqb a b && same-bytes s u
 
-record Recorded : Type 0 where
-  entry : Entry
-  file : String
-  answer : Result ℕ
-  left : String
+pub record Recorded : Type 0 where
+  pub entry : Entry
+  pub file : String
+  pub answer : Result ℕ
+  pub left : String
 
-unfoldable case : Entry → String → Result ℕ → String → Recorded
+unfoldable pub case : Entry → String → Result ℕ → String → Recorded
 case e s a l = record { entry = e; file = s; answer = a; left = l }
 
-unfoldable holds : Recorded → Bool
+unfoldable pub holds : Recorded → Bool
 holds c =
     let o : Result ℕ × List ℕ = outcome (c .entry) (unhex (c .file)) in
     same-answer (o .0) (c .answer) && same-bytes (o .1) (unhex (c .left))
 
-unfoldable all-hold : List Recorded → Bool
+unfoldable pub all-hold : List Recorded → Bool
 all-hold [] = true
 all-hold (c ∷ cs) = holds c && all-hold cs
 
-unfoldable recorded : List Recorded
+unfoldable pub recorded : List Recorded
 recorded =
     case file-check "01000a10000423000175110000" (accepted 0) ""
     ∷ case file-check "01001310000d2000030000002100043a800000110000" (accepted 0) ""
@@ -918,7 +917,3 @@ recorded =
     ∷ case (document-of 0) "010005110002662804004708002f060022120001610100081100053663312074010010100009200003aa8f4a2600001100015f0100041100012c05000008001201000b1100080a0a0a0a0a3c0a220700012c0100041100017d" (refused 5 14) ""
     ∷ case (body-of 2) "02000412000122" (refused 9 3) "a5a5"
     ∷ []
-
-recorded-hold : T (all-hold recorded)
-unfolding all-open outcome same-answer same-bytes case holds all-hold recorded
-recorded-hold = tt

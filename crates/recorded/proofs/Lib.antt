@@ -1,0 +1,2 @@
+-- The rules give the recorded answers.
+pub mod Held

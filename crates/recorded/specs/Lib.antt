@@ -1,0 +1,2 @@
+-- The recorded answers.
+pub mod Recorded
