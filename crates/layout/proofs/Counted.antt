@@ -2,24 +2,15 @@
 use mathlib.Core.Path.{_≡_, refl, sym, ap, ap₂, _∙_}
 use mathlib.Core.List.{List, [], _∷_, _++_, append-nil}
 use mathlib.Core.Bool.{Bool, true, false}
-use Prim.Native.Nat.{ℕ, suc, _+_, _≤_, min}
+use Prim.Native.Nat.{ℕ, suc, _+_, _≤_}
 use native.Mathlib.Omega.{arith}
-use lib.Dec.{leb, eqb}
+use lib.Dec.{eqb}
 use lib.ListN.{length, length-append}
-use borrow.Author.Tests.{leb-true, leb-false}
 use Rattle.rules.specs.Bytes.{if_then_else_, cap}
 use Rattle.rules.specs.Encode.{field}
 use Rattle.rules.specs.Answers.{changed}
+use Rattle.rules.proofs.Stretches.{cap-min}
 use Rattle.rules.proofs.Turned.{changed-tag, changed-field}
-
--- a cap is a minimum, which omega reads
-pub cap-min : (n : ℕ) → cap n ≡ min n 65_535
-unfolding cap
-cap-min n = go (leb n 65_535) refl
-  where
-    go : (b : Bool) → leb n 65_535 ≡ b → (if b then n else 65_535) ≡ min n 65_535
-    go true e = omega (arith, leb-true n 65_535 e)
-    go false e = omega (arith, leb-false n 65_535 e)
 
 pub cap-sum : (a b : ℕ) → cap (cap a + cap b) ≡ cap (a + b)
 cap-sum a b = omega (arith, cap-min a, cap-min b, cap-min (cap a + cap b), cap-min (a + b))

@@ -10,7 +10,8 @@ use borrow.Author.Tests.{leb-false, le-leb}
 use Rattle.rules.specs.Bytes.{cap}
 use Rattle.rules.specs.Walk.{Fields, in-fragment, is-block}
 use Rattle.rules.specs.Tree.{Leaf, text, anchor, space, force, if-block, Kind, indented, flexible}
-use Rattle.rules.specs.Layout.{Shape, Inline, Block, _⊕_, stretch, room, kept-inline, chosen}
+use Rattle.rules.specs.Layout.{Shape, Inline, Block, _⊕_, room, kept-inline, chosen}
+use Rattle.rules.specs.Ahead.{stretch}
 use Rattle.rules.specs.Encode.{field, encode-fields, leaf-fields, block-tag}
 use Rattle.rules.specs.Good.{Good}
 use Rattle.rules.proofs.Turned.{leaf-bytes}

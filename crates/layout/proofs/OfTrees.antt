@@ -7,15 +7,17 @@ use lib.ListN.{length}
 use Rattle.rules.specs.Bytes.{cap, newline}
 use Rattle.rules.specs.Walk.{Fields, in-fragment, in-block, holds, is-block}
 use Rattle.rules.specs.Tree.{Leaf, indented, flexible, Frag, stop, leaf, block, Frags, none-left, frag}
-use Rattle.rules.specs.Layout.{Shape, Inline, Block, _⊕_, stretch, room, chosen, rigid, ahead, past, lay, lay-all, layout}
+use Rattle.rules.specs.Layout.{Shape, Inline, Block, _⊕_, room, chosen, rigid, layout}
+use Rattle.rules.specs.Ahead.{stretch, ahead, past, lay, lay-all}
 use Rattle.rules.specs.Encode.{field, encode-fields, leaf-fields, block-tag, frag-fields, frags-fields, encode}
 use Rattle.rules.specs.Good.{Good, GoodTree}
 use Rattle.rules.specs.Answers.{changed}
 use Rattle.rules.proofs.Typed.{inner-good}
+use Rattle.rules.proofs.Stretches.{cap-min, layout-ahead}
 use Rattle.rules.proofs.Turned.{leaf-bytes, encode-leaf}
 use Rattle.rigid.specs.RigidIn.{rigid-in}
 use Rattle.layout.specs.LaidIn.{Laid, ahead-in, past-in, with-node, with-fragment, nodes-in, flex-in, fragment-in}
-use Rattle.layout.proofs.Counted.{cap-min, changed-le}
+use Rattle.layout.proofs.Counted.{changed-le}
 use Rattle.layout.proofs.Rows.{Laying, Row, row-nil, row-more, node-turn, fragment-turn}
 use Rattle.layout.proofs.Nodes.{leaf-at, rigid-3, rigid-4, ahead-nil, ahead-field, leaf-laying, block-laying, flexible-laying, fragment-laying, whole-says, room-left}
 
@@ -105,7 +107,7 @@ module _ (rigid-leaf : (n : Leaf ℕ) (d before : ℕ) (r : Fields ℕ) → Good
   pub laid-tree : (w : ℕ) (t : Frag ℕ) → GoodTree t
       → (fragment-in 32 (10 * w) (10 * w) 0 (encode t) .1 ≡ encode (layout newline w t))
       × (fragment-in 32 (10 * w) (10 * w) 0 (encode t) .0 .1 ≡ length (changed 0 (encode t) (encode (layout newline w t))))
-  unfolding encode layout
+  unfolding encode
   laid-tree w t G =
       let s = encode-fields (frag-fields t) in
       let so = ahead newline (Inline 0 0) t in
@@ -114,4 +116,4 @@ module _ (rigid-leaf : (n : Leaf ℕ) (d before : ℕ) (r : Fields ℕ) → Good
       let e = whole-says 32 (10 * w) (10 * w) s s′ so _ (ahead-tree t 0 0 (G .good) (Inline 0 0) (length s) (omega arith)) R in
       -- no more bytes change than the file has, so the count is not capped
       let c : cap (R .count) ≡ length (changed 0 s s′) = omega (arith, R .changes .differ 0, cap-min (R .count), G .short, changed-le 0 s s′) in
-      (ap (λ x. x .1) e, ap (λ x. x .0 .1) e ∙ c)
+      rw (layout-ahead newline w t) (ap (λ x. x .1) e, ap (λ x. x .0 .1) e ∙ c)

@@ -16,7 +16,8 @@ use Rattle.parts.proofs.Loops.{walk-nil}
 use Rattle.parts.proofs.OfFields.{length-field, walk-field}
 use Rattle.rigid.specs.RigidIn.{rigid-in}
 use Rattle.layout.specs.LaidIn.{Laid, past-in, with-node, with-fragment}
-use Rattle.layout.proofs.Counted.{cap-min, cap-sum, one-unless, field-count}
+use Rattle.rules.proofs.Stretches.{cap-min}
+use Rattle.layout.proofs.Counted.{cap-sum, one-unless, field-count}
 
 -- s becomes s′, which is as long, and differs from it at `count` places
 pub record Changes (s s′ : List ℕ) (count : ℕ) : Type 0 where

@@ -5,7 +5,8 @@ use Prim.Native.Nat.{ℕ, zero, suc, _+_, _-_, _<_, _≤_}
 use native.Mathlib.Omega.{arith}
 use lib.ListN.{length, take, drop, length-drop}
 use borrow.Author.Tests.{eq-eqb, ne-eqb}
-use Rattle.rules.specs.Layout.{Shape, Inline, Block, _⊕_, stretch}
+use Rattle.rules.specs.Layout.{Shape, Inline, Block, _⊕_}
+use Rattle.rules.specs.Ahead.{stretch}
 use Rattle.rigid.specs.RigidIn.{rigid-in}
 use Rattle.parts.specs.Walk.{span, here, rest, Ends}
 use Rattle.parts.proofs.Spans.{span-positive}

@@ -5,7 +5,8 @@ use lib.Dec.{leb, eqb}
 use lib.ListN.{length, getD, drop, set}
 use mathlib.Core.Bool.{Bool, true, false}
 use Rattle.rules.specs.Bytes.{if_then_else_, cap}
-use Rattle.rules.specs.Layout.{Shape, Inline, Block, _⊕_, stretch, room}
+use Rattle.rules.specs.Layout.{Shape, Inline, Block, _⊕_, room}
+use Rattle.rules.specs.Ahead.{stretch}
 use Rattle.rigid.specs.RigidIn.{rigid-in}
 use Rattle.parts.specs.Walk.{span, here, rest, over}
 

@@ -2,7 +2,9 @@
 use mathlib.Core.Bool.{Bool, true, false}
 use Prim.Native.Nat.{ℕ}
 use Rattle.rules.specs.Tree.{Leaf, Kind, indented, flexible, Frag, stop, leaf, block, Frags, none-left, frag}
-use Rattle.rules.specs.Layout.{Shape, Inline, Block, kept-inline, chosen, lay, lay-all, layout}
+use Rattle.rules.specs.Layout.{Shape, Inline, Block, kept-inline, chosen, layout}
+use Rattle.rules.specs.Ahead.{lay, lay-all}
+use Rattle.rules.proofs.Stretches.{layout-ahead}
 
 -- a block's tag may stay, and a 4 may become a 3
 pub data Turn : Kind → Kind → Type 0 where
@@ -46,5 +48,4 @@ module _ {X : Type 0} (newline : X → Bool) where
 
   -- LAYOUT TURNS SOME 4S INTO 3S
   pub layout-laid : (w : ℕ) (t : Frag X) → Laid t (layout newline w t)
-  unfolding layout
-  layout-laid w t = lay-laid t _ _ _
+  layout-laid w t = rw (layout-ahead newline w t) (lay-laid t _ _ _)

@@ -1,5 +1,5 @@
 -- Naturality of layout: the layout of a mapped tree is the mapped layout, as long as newlines stand alike.
-use mathlib.Core.Path.{_≡_, refl, ap}
+use mathlib.Core.Path.{_≡_, refl, sym, ap, _∙_}
 use mathlib.Core.List.{List, [], _∷_, map}
 use mathlib.Core.Option.{Option, none}
 use mathlib.Core.Bool.{Bool, true, false}
@@ -8,7 +8,9 @@ use lib.ListN.{length-map}
 use Rattle.rules.specs.Bytes.{if_then_else_}
 use Rattle.rules.specs.Walk.{Fields}
 use Rattle.rules.specs.Tree.{Run, Leaf, text, anchor, space, force, if-block, Kind, indented, flexible, Frag, stop, leaf, block, Frags, none-left, frag}
-use Rattle.rules.specs.Layout.{parts, Shape, Inline, Block, _⊕_, width, last, room, stretch, rigid-text, rigid-runs, rigid, ahead, past, chosen, lay, lay-all, layout, parts-shape, only-if-block}
+use Rattle.rules.specs.Layout.{parts, Shape, Inline, Block, _⊕_, width, last, room, rigid-text, rigid-runs, rigid, chosen, layout, parts-shape, only-if-block}
+use Rattle.rules.specs.Ahead.{stretch, ahead, past, lay, lay-all}
+use Rattle.rules.proofs.Stretches.{layout-ahead}
 use Rattle.rules.proofs.Maps.{map-run, map-leaf, map-frag, map-frags}
 
 module _ {X Y : Type 0} (f : X → Y) (newline : Y → Bool) where
@@ -104,5 +106,5 @@ module _ {X Y : Type 0} (f : X → Y) (newline : Y → Bool) where
 
   -- THE LAYOUT OF A MAPPED TREE
   pub layout-map : (w : ℕ) (t : Frag X) → layout newline w (map-frag f t) ≡ map-frag f (layout old w t)
-  unfolding layout
-  layout-map w t = λ j. lay-map t (10 * w) (10 * w) (ahead-map (Inline 0 0) t j) j .0
+  layout-map w t =
+      layout-ahead newline w (map-frag f t) ∙ (λ j. lay-map t (10 * w) (10 * w) (ahead-map (Inline 0 0) t j) j .0) ∙ ap (map-frag f) (sym (layout-ahead old w t))

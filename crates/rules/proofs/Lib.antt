@@ -8,6 +8,7 @@ pub mod Typed
 pub mod Files
 pub mod Maps
 pub mod Lists
+pub mod Stretches
 pub mod LayoutMap
 pub mod LinesMap
 pub mod PageMap

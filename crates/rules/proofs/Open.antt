@@ -9,7 +9,7 @@ use Rattle.rules.specs.Result.{_>>=_, _>>_, need, sound}
 use Rattle.rules.specs.Walk.{holds, allowed, right-length, is-block, right-opacity, right-size, content, complete, tags, front, valued, walk, check}
 use Rattle.rules.specs.Tree.{bytes-of, fields-of, or-empty, map-fields, signed-byte, styles-of, run-of, runs-of, anchor-of, frag-of, read}
 use Rattle.rules.specs.Encode.{field, encode-fields, run-fields, runs-fields, anchor-tag, leaf-fields, block-tag, frag-fields, encode}
-use Rattle.rules.specs.Layout.{or-script, effective, not-negative, byte-width, styled-width, width, _⊕_, last, parts-shape, only-if-block, room, kept-inline, chosen, stretch, parts, rigid-text, rigid-runs, rigid, ahead, past, lay, layout}
+use Rattle.rules.specs.Layout.{or-script, effective, not-negative, byte-width, styled-width, width, _⊕_, last, parts-shape, only-if-block, room, kept-inline, chosen, rigid-block, before, leaf-flexible, block-flexible, in-turn, nothing-yet, and-node, at-end, parts, rigid-text, rigid-runs, rigid, fragment-layout, layout}
 use Rattle.rules.specs.Lines.{later, styled, text-ops, run-ops, runs-ops, leaf-ops, ops, start, ignored, joined, target, making, release, levels, spacing, item, broken, step, run, items}
 use Rattle.rules.specs.Plain.{chars, plain, fill}
 use Rattle.rules.specs.Float.{mag, nearest, prefers-lower, choice, at-places, found, from-places, shortest}
@@ -26,7 +26,8 @@ unfolding
     _>>=_ _>>_ need sound holds allowed right-length is-block right-opacity right-size content complete tags front valued walk check
     bytes-of fields-of or-empty map-fields signed-byte styles-of run-of runs-of anchor-of frag-of read
     field encode-fields run-fields runs-fields anchor-tag leaf-fields block-tag frag-fields encode
-    or-script effective not-negative byte-width styled-width width _⊕_ last parts-shape only-if-block room kept-inline chosen stretch parts rigid-text rigid-runs rigid ahead past lay layout
+    or-script effective not-negative byte-width styled-width width _⊕_ last parts-shape only-if-block room kept-inline chosen rigid-block
+    before leaf-flexible block-flexible in-turn nothing-yet and-node at-end parts rigid-text rigid-runs rigid fragment-layout layout
     later styled text-ops run-ops runs-ops leaf-ops ops start ignored joined target making release levels spacing item broken step run items chars plain fill
     mag nearest prefers-lower choice at-places found from-places shortest signed-decimal opacity-text total below-zero rounded product-of sum-of em em-text
     separated colour-css weight-css size-css script css tag-name attribute open-tag close-tag escape root opening closing makes copies escaped id-attribute mark-html item-html items-html body

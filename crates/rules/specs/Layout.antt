@@ -1,5 +1,5 @@
 -- Widths in tenths of a column, shapes, and layout: rigid, flexible, a fragment's.
-use mathlib.Core.List.{List, [], _∷_}
+use mathlib.Core.List.{List, [], _∷_, _++_}
 use mathlib.Core.Option.{Option, none, some}
 use mathlib.Core.Bool.{Bool, true, false, _||_}
 use Prim.Native.Nat.{ℕ, _+_, _*_, _-_, max}
@@ -87,10 +87,73 @@ unfoldable pub chosen : (i : ℕ) → Shape → Kind × Shape
 chosen i (Inline worst excess) = kept-inline (leb (worst - excess) i) (worst - excess)
 chosen i (Block pre post) = (indented, Block 0 0)
 
--- the rigid layouts of a stretch, with a node's own: an Inline goes on with what is `further`, a Block ends it with its pre
-unfoldable pub stretch : (so-far own further : Shape) → Shape
-stretch so-far (Inline worst excess) further = further
-stretch so-far (Block pre post) further = so-far ⊕ Inline pre 0
+-- a tag 3 is a rigid Block (0, 0), a tag 4 a rigid Inline (0, 0)
+unfoldable pub rigid-block : Kind → Shape
+rigid-block indented = Block 0 0
+rigid-block flexible = Inline 0 0
+
+-- ---- a fragment's nodes, some done and some not
+
+-- a node: a leaf, or a block
+pub data Node (X : Type 0) : Type 0 where
+  a-leaf : Leaf X → Node X
+  a-block : Kind → Frags X → Node X
+
+-- some nodes before a fragment's others
+unfoldable pub before : {X : Type 0} → List (Node X) → Frag X → Frag X
+before [] r = r
+before (a-leaf n ∷ ns) r = leaf n (before ns r)
+before (a-block k fs ∷ ns) r = block k fs (before ns r)
+
+-- a flexible layout: from an inline and a block maximum, the node as it is left, and its shape
+abbrev pub Flexible : Type 0 → Type 0
+Flexible X = (i b : ℕ) → Node X × Shape
+
+-- a fragment so far: its shape, the nodes that are done, and the flexible layouts of those that are not
+pub record SoFar (X : Type 0) : Type 0 where
+  pub shape : Shape
+  pub done : List (Node X)
+  pub waiting : List (Flexible X)
+
+module _ {X : Type 0} where
+  -- all but blocks give Inline (0, 0)
+  unfoldable pub leaf-flexible : Leaf X → Flexible X
+  leaf-flexible n i b = (a-leaf n, Inline 0 0)
+
+  -- a block, whose fragments are laid out by `inside`. With B block less 20: a tag 3 lays out each at (B, B), a tag 4 at (larger of inline and B, B)
+  unfoldable pub block-flexible : Kind → (inside : (i b : ℕ) → Frags X × Shape) → Flexible X
+  block-flexible indented inside i b = (a-block indented (inside (b - 20) (b - 20) .0), Block 0 0)
+  block-flexible flexible inside i b =
+      let fs : Frags X × Shape = inside (max i (b - 20)) (b - 20) in
+      let c : Kind × Shape = chosen i (fs .1) in
+      (a-block (c .0) (fs .0), c .1)
+
+  -- flexible layouts in turn: each call gets the block maximum, and the inline maximum that is left
+  unfoldable pub in-turn : (i b : ℕ) → List (Flexible X) → Shape → List (Node X) × Shape
+  in-turn i b [] so-far = ([], so-far)
+  in-turn i b (f ∷ fs) so-far =
+      let n : Node X × Shape = f (room i b so-far) b in
+      let ns : List (Node X) × Shape = in-turn i b fs (so-far ⊕ (n .1)) in
+      (n .0 ∷ ns .0, ns .1)
+
+  -- start at Inline (0, 0)
+  unfoldable pub nothing-yet : SoFar X
+  nothing-yet = record { shape = Inline 0 0; done = []; waiting = [] }
+
+  -- a node with its rigid and its flexible layout. A rigid Inline is appended. At a rigid Block Inline (pre, 0) is appended, then the flexible
+  -- layouts of all nodes not yet done up to and including this one, then Block (0, post)
+  unfoldable pub and-node : (i b : ℕ) → Shape → Flexible X → SoFar X → SoFar X
+  and-node i b (Inline worst excess) f s =
+      record { shape = s .shape ⊕ Inline worst excess; done = s .done; waiting = s .waiting ++ (f ∷ []) }
+  and-node i b (Block pre post) f s =
+      let ns : List (Node X) × Shape = in-turn i b (s .waiting ++ (f ∷ [])) (s .shape ⊕ Inline pre 0) in
+      record { shape = ns .1 ⊕ Block 0 post; done = s .done ++ ns .0; waiting = [] }
+
+  -- at the end the remaining flexible layouts
+  unfoldable pub at-end : (i b : ℕ) → SoFar X → Frag X × Shape
+  at-end i b s =
+      let ns : List (Node X) × Shape = in-turn i b (s .waiting) (s .shape) in
+      (before (s .done ++ ns .0) stop, ns .1)
 
 module _ {X : Type 0} (newline : X → Bool) where
   unfoldable pub parts : List X → List X × List (List X)
@@ -113,43 +176,21 @@ module _ {X : Type 0} (newline : X → Bool) where
   rigid force = Block 0 0
   rigid (if-block v) = only-if-block (rigid-text none v)
 
-  -- a fragment's rigid layouts are appended ahead of its flexible ones, a stretch at a time: up to the next rigid Block. A tag 3 is a rigid
-  -- Block (0, 0), a tag 4 a rigid Inline (0, 0)
-  unfoldable pub ahead : Shape → Frag X → Shape
-  ahead so-far stop = so-far
-  ahead so-far (leaf n r) = let further : Shape = ahead (so-far ⊕ rigid n) r in stretch so-far (rigid n) further
-  ahead so-far (block indented fs r) = stretch so-far (Block 0 0) so-far
-  ahead so-far (block flexible fs r) = ahead (so-far ⊕ Inline 0 0) r
-
-  -- past a node whose flexible layout is appended, by its rigid layout: a Block appends Block (0, post), and the next stretch
-  unfoldable pub past : Shape → Shape → Frag X → Shape
-  past (Inline w e) so-far r = so-far
-  past (Block pre post) so-far r = ahead (so-far ⊕ Block 0 post) r
-
-  -- a fragment laid out from the shape so far, at the inline and the block maximum i and b, and its shape; and a block's fragments
+  -- the nodes of a fragment in turn, at its inline and its block maximum, and its shape; and a block's fragments, appended
   unfoldable mutual
-    pub lay : Frag X → (i b : ℕ) → Shape → Frag X × Shape
-    lay stop i b so-far = (stop, so-far)
-    lay (leaf n r) i b so-far =
-        let r′ : Frag X × Shape = lay r i b (past (rigid n) so-far r) in
-        (leaf n (r′ .0), r′ .1)
-    lay (block indented fs r) i b so-far =
-        let fs′ : Frags X × Shape = lay-all fs (b - 20) (b - 20) (Inline 0 0) in
-        let r′ : Frag X × Shape = lay r i b (past (Block 0 0) (so-far ⊕ Block 0 0) r) in
-        (block indented (fs′ .0) (r′ .0), r′ .1)
-    lay (block flexible fs r) i b so-far =
-        let fs′ : Frags X × Shape = lay-all fs (max (room i b so-far) (b - 20)) (b - 20) (Inline 0 0) in
-        let c : Kind × Shape = chosen (room i b so-far) (fs′ .1) in
-        let r′ : Frag X × Shape = lay r i b (so-far ⊕ (c .1)) in
-        (block (c .0) (fs′ .0) (r′ .0), r′ .1)
+    pub fragment-layout : Frag X → (i b : ℕ) → SoFar X → Frag X × Shape
+    fragment-layout stop i b s = at-end i b s
+    fragment-layout (leaf n r) i b s = fragment-layout r i b (and-node i b (rigid n) (leaf-flexible n) s)
+    fragment-layout (block k fs r) i b s =
+        fragment-layout r i b (and-node i b (rigid-block k) (block-flexible k (λ i b. fragments-layout fs i b (Inline 0 0))) s)
 
-    pub lay-all : Frags X → (i b : ℕ) → Shape → Frags X × Shape
-    lay-all none-left i b so-far = (none-left, so-far)
-    lay-all (frag f fs) i b so-far =
-        let f′ : Frag X × Shape = lay f i b (ahead (Inline 0 0) f) in
-        let fs′ : Frags X × Shape = lay-all fs i b (so-far ⊕ (f′ .1)) in
+    pub fragments-layout : Frags X → (i b : ℕ) → Shape → Frags X × Shape
+    fragments-layout none-left i b so-far = (none-left, so-far)
+    fragments-layout (frag f fs) i b so-far =
+        let f′ : Frag X × Shape = fragment-layout f i b nothing-yet in
+        let fs′ : Frags X × Shape = fragments-layout fs i b (so-far ⊕ (f′ .1)) in
         (frag (f′ .0) (fs′ .0), fs′ .1)
 
   -- a tree laid out at the width w: at the root both maxima are 10 w
   unfoldable pub layout : ℕ → Frag X → Frag X
-  layout w t = (lay t (10 * w) (10 * w) (ahead (Inline 0 0) t)) .0
+  layout w t = fragment-layout t (10 * w) (10 * w) nothing-yet .0

@@ -8,6 +8,7 @@ pub mod Tree
 pub mod Encode
 pub mod Good
 pub mod Layout
+pub mod Ahead
 pub mod Lines
 pub mod Plain
 pub mod Float
