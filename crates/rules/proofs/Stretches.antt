@@ -3,7 +3,7 @@ use mathlib.Core.Path.{_≡_, refl, ap, ap₂, _∙_}
 use mathlib.Core.List.{List, [], _∷_, _++_, append-nil}
 use mathlib.Core.Option.{Option, none}
 use mathlib.Core.Bool.{Bool, true, false}
-use Prim.Native.Nat.{ℕ, _+_, _*_, _-_, min}
+use Prim.Native.Nat.{ℕ, _+_, _*_, _≤_, min}
 use native.Mathlib.Omega.{arith}
 use lib.Dec.{leb}
 use lib.ListN.{length}
@@ -46,16 +46,18 @@ settled-append s (Inline w e) S = settled-inline s w e
 settled-append (Inline w e) (Block pre post) S = settled-post S (cap (w + pre))
 settled-append (Block pre post) (Block pre′ post′) S = settled-post S pre
 
-chosen-settled : (i : ℕ) (s : Shape) → Settled s → Settled (chosen i s .1)
-unfolding _⊕_ chosen kept-inline cap
-chosen-settled i (Inline w e) S = go (leb (w - e) i)
-  where
-    least : cap (w + 0) ≡ w
-    least = cc
+settled-worst : {w e : ℕ} → Settled (Inline w e) → w ≤ 65_535
+unfolding _⊕_
+settled-worst {w} {e} S = let least : cap (w + 0) ≡ w = cc in omega (arith, least, cap-min (w + 0))
 
-    go : (fits : Bool) → Settled (kept-inline fits (w - e) .1)
-    go true = ap (λ (n : ℕ). Inline n 0) (omega (arith, least, cap-min (w + 0), cap-min (w - e + 0)))
-    go false = refl
+kept-settled : (fits : Bool) (candidate : ℕ) → candidate ≤ 65_535 → Settled (kept-inline fits candidate .1)
+unfolding _⊕_ kept-inline cap
+kept-settled true candidate h = ap (λ (n : ℕ). Inline n 0) (omega (arith, cap-min (candidate + 0)))
+kept-settled false candidate h = refl
+
+chosen-settled : (i : ℕ) (s : Shape) → Settled s → Settled (chosen i s .1)
+unfolding chosen _⊕_ cap
+chosen-settled i (Inline w e) S = kept-settled _ _ (omega (arith, settled-worst S))
 chosen-settled i (Block pre post) S = refl
 
 only-if-block-settled : (s : Shape) → Settled s → Settled (only-if-block s)
