@@ -5,7 +5,7 @@ use Prim.Native.Nat.{ℕ, _+_, _-_, _≤_, _<_}
 use native.Mathlib.Omega.{arith}
 use lib.ListN.{length, getD, drop, take, length-take, length-drop}
 use Rattle.rules.specs.declared.Refusal.{Refusal}
-use Rattle.rules.specs.Result.{Result, _>>=_, sound}
+use Rattle.rules.specs.Result.{Result, _>>=_, Check, sound}
 use Rattle.rules.specs.Walk.{Holder, in-fragment, in-block, in-styles, Field, front, complete, allowed}
 use Rattle.fields.specs.FieldAt.{length-at}
 use Rattle.verify.specs.declared.answer.Checked.{Checked}
@@ -102,4 +102,4 @@ module _ {s : List ℕ} {d base place : ℕ} where
         (come-on C l F z q (Sees (seen-with seen (getD s at 0))) (λ ts S A. sees-more (getD s at 0) S))
 
     pub styles-last : {r : Checked} → length s ≤ at → checked r ≡ sound (complete-seen seen) place → FieldsSaid in-styles d base place s r
-    styles-last l e = come-last C l (e ∙ ap (λ (n : ℕ). sound n place) (sees-all (C .keeps)))
+    styles-last l e = come-last C l (e ∙ ap (λ (cs : List Check). sound cs place) (sees-all (C .keeps)))

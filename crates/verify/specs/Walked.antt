@@ -6,7 +6,7 @@ use Prim.Native.Nat.{ℕ, _+_, _<_, _^_}
 use lib.Dec.{leb}
 use lib.ListN.{length, drop}
 use Rattle.rules.specs.Result.{Result, refused, _>>=_, _>>_, need, sound}
-use Rattle.rules.specs.Walk.{Holder, in-fragment, Field, Value, front, valued, walk, holds, complete, tags, allowed, right-length, is-block}
+use Rattle.rules.specs.Walk.{Holder, in-fragment, Field, Value, front, content, valued, walk, holds, complete, tags, allowed, right-length, is-block}
 use Rattle.rules.specs.Good.{depth-in}
 use Rattle.rules.specs.Answers.{itself}
 use Rattle.verify.specs.declared.answer.Checked.{Checked}
@@ -14,7 +14,7 @@ use Rattle.verify.specs.Said.{checked, done}
 
 -- the content of a field of the tag t at the place p, inside d blocks
 unfoldable pub content-result : (t d p : ℕ) → List ℕ → Result (Value ℕ)
-content-result t d p v = valued itself (holds t) t p v (λ h. walk itself (length v) h (depth-in t d) 0 (p + 3) v)
+content-result t d p v = valued content itself (holds t) t p v (λ h. walk content itself (length v) h (depth-in t d) 0 (p + 3) v)
 
 -- its fixed length and its depth, then its content
 unfoldable pub value-result : (t d p : ℕ) → List ℕ → Result (Value ℕ)
@@ -31,7 +31,7 @@ field-result h d before p s = front-of h d before p s >>= λ f. content-result (
 
 -- the fields s of the holder h, inside d blocks; they stand at `base`, and the field that holds them at `place`
 unfoldable pub fields-result : Holder → (d base place : ℕ) → List ℕ → Result (Unit {0})
-fields-result h d base place s = walk itself (length s) h d 0 base s >>= λ i. sound (complete h (tags i)) place
+fields-result h d base place s = walk content itself (length s) h d 0 base s >>= λ i. sound (complete h (tags i)) place
 
 -- ---- as checks
 
