@@ -5,6 +5,7 @@ use mathlib.Core.Bool.{true, false, _&&_, not}
 use Prim.Native.Nat.{ℕ, _+_, _<_, _^_}
 use lib.Dec.{leb}
 use lib.ListN.{length, drop}
+use Rattle.rules.specs.Limits.{most-blocks}
 use Rattle.rules.specs.Result.{Result, refused, _>>=_, _>>_, need, sound}
 use Rattle.rules.specs.Walk.{Holder, in-fragment, Field, Value, front, content, valued, walk, holds, complete, tags, allowed, right-length, is-block}
 use Rattle.rules.specs.Good.{depth-in}
@@ -18,7 +19,7 @@ content-result t d p v = valued content itself (holds t) t p v (λ h. walk conte
 
 -- its fixed length and its depth, then its content
 unfoldable pub value-result : (t d p : ℕ) → List ℕ → Result (Value ℕ)
-value-result t d p v = need (right-length t (length v)) 5 p >> (need (not (is-block t && leb 32 d)) 6 p >> content-result t d p v)
+value-result t d p v = need (right-length t (length v)) 5 p >> (need (not (is-block t && leb most-blocks d)) 6 p >> content-result t d p v)
 
 -- the rules' field at the front of some bytes; where none is left there is no header
 unfoldable pub front-of : Holder → (d before p : ℕ) → List ℕ → Result (Field ℕ)

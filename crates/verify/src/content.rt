@@ -9,6 +9,7 @@ use utf8::has_quote;
 ghost use mathlib.Core.Path.{_≡_};
 ghost use Prim.Native.Nat.{_≤_};
 ghost use lib.ListN.{length};
+ghost use Rattle.rules.specs.Limits.{first-style, last-style};
 ghost use Rattle.rules.specs.Bytes.{number};
 ghost use Rattle.rules.specs.Result.{sound};
 ghost use Rattle.rules.specs.Walk.{right-opacity, right-size, text-content, anchor-content};
@@ -71,7 +72,7 @@ fn right_size(b: usize) -> bool
 
 // The value of a style's field of the tag: its length, then what it says.
 pub fn check_style(v: &[u8], tag: u8, place: usize) -> Checked
-    requires { ⌜ (32 ≤ tag) × (tag ≤ 38) ⌝ }
+    requires { ⌜ (first-style ≤ tag) × (tag ≤ last-style) ⌝ }
     ensures { λ r. ⌜ checked r ≡ style-verdict tag (now (v .entry)) place ⌝ }
 {
     if !right_style_length(tag, v.len()) {
