@@ -19,105 +19,104 @@ use Rattle.rules.specs.Answers.{itself, tree, check-answer, coded}
 use Rattle.rules.proofs.Chains.{no-path}
 use Rattle.rules.proofs.Fuel.{front-fits}
 
--- ---- numbers of faults
+-- ---- numbers
 
--- a number that the walk gives
+-- each check that may fail has a number that is allowed
+abbrev Numbers : (ℕ → Type 0) → List Check → Type 0
+Numbers Ok [] = Unit {0}
+Numbers Ok (b or-refuse n ∷ cs) = Ok n × Numbers Ok cs
+
+-- the numbers of document 01's walk
 abbrev pub Fault : ℕ → Type 0
 Fault n = (3 ≤ n) × (n ≤ 9)
 
--- whatever check fails, it is a fault
-abbrev Faults : List Check → Type 0
-Faults [] = Unit {0}
-Faults (b or-refuse n ∷ cs) = Fault n × Faults cs
-
-if-faults : (b : Bool) (cs ds : List Check) → Faults cs → Faults ds → Faults (if b then cs else ds)
+if-faults : (b : Bool) (cs ds : List Check) → Numbers Fault cs → Numbers Fault ds → Numbers Fault (if b then cs else ds)
 if-faults true cs ds x y = x
 if-faults false cs ds x y = y
 
--- so with document 01's content
-content-faults : (t : ℕ) (v : List ℕ) → Faults (content t v)
+content-faults : (t : ℕ) (v : List ℕ) → Numbers Fault (content t v)
 unfolding content text-content anchor-content
 content-faults t v =
     if-faults (eqb t 17 || eqb t 7) _ _ (omega arith, tt)
     (if-faults (eqb t 18 || eqb t 19) _ _ (omega arith, (omega arith, tt))
     (if-faults (eqb t 33) _ _ (omega arith, tt) (if-faults (eqb t 35) _ [] (omega arith, tt) tt)))
 
-complete-faults : (h : Holder) (ts : List ℕ) → Faults (complete h ts)
-unfolding complete
-complete-faults in-fragment ts = tt
-complete-faults in-block ts = tt
-complete-faults in-text ts = (omega arith, tt)
-complete-faults in-anchor ts = (omega arith, tt)
-complete-faults in-styles ts = (omega arith, (omega arith, tt))
+-- ---- where a refusal stands, for any content and whatever numbers it has beside document 01's
 
--- ---- where a refusal stands
+module _ (Ok : ℕ → Type 0) where
+  -- the refusal n at p is allowed, and stands from `lo` to `hi`
+  record Stood (lo hi n p : ℕ) : Type 0 where
+    number : Ok n
+    from : lo ≤ p
+    to : p ≤ hi
 
--- the refusal n at p is a fault that stands from `lo` to `hi`
-pub record Stood (lo hi n p : ℕ) : Type 0 where
-  pub fault : Fault n
-  pub from : lo ≤ p
-  pub to : p ≤ hi
+  -- whatever a result refuses, it refuses so
+  abbrev Stands-within : {A : Type 0} → ℕ → ℕ → Result A → Type 0
+  Stands-within lo hi (refused n p) = Stood lo hi n p
+  Stands-within lo hi (accepted a) = Unit {0}
 
--- whatever a result refuses, it refuses so
-abbrev pub Stands-within : {A : Type 0} → ℕ → ℕ → Result A → Type 0
-Stands-within lo hi (refused n p) = Stood lo hi n p
-Stands-within lo hi (accepted a) = Unit {0}
+  bind-stood : {A B : Type 0} (lo hi : ℕ) (m : Result A) (f : A → Result B) → Stands-within lo hi m → ((a : A) → m ≡ accepted a → Stands-within lo hi (f a)) → Stands-within lo hi (m >>= f)
+  unfolding _>>=_
+  bind-stood lo hi (refused n p) f x y = x
+  bind-stood lo hi (accepted a) f x y = y a refl
 
-bind-stood : {A B : Type 0} (lo hi : ℕ) (m : Result A) (f : A → Result B) → Stands-within lo hi m → ((a : A) → m ≡ accepted a → Stands-within lo hi (f a)) → Stands-within lo hi (m >>= f)
-unfolding _>>=_
-bind-stood lo hi (refused n p) f x y = x
-bind-stood lo hi (accepted a) f x y = y a refl
+  need-stood : {B : Type 0} (lo hi : ℕ) (t : Bool) (n p : ℕ) (r : Result B) → Stood lo hi n p → (t ≡ true → Stands-within lo hi r) → Stands-within lo hi (need t n p >> r)
+  unfolding need _>>_
+  need-stood lo hi true n p r x y = y refl
+  need-stood lo hi false n p r x y = x
 
-need-stood : {B : Type 0} (lo hi : ℕ) (t : Bool) (n p : ℕ) (r : Result B) → Stood lo hi n p → (t ≡ true → Stands-within lo hi r) → Stands-within lo hi (need t n p >> r)
-unfolding need _>>_
-need-stood lo hi true n p r x y = y refl
-need-stood lo hi false n p r x y = x
+  sound-stood : {B : Type 0} (lo hi p : ℕ) (cs : List Check) (r : Result B) → Numbers Ok cs → lo ≤ p → p ≤ hi → Stands-within lo hi r → Stands-within lo hi (sound cs p >> r)
+  unfolding sound need _>>_
+  sound-stood lo hi p [] r x l h y = y
+  sound-stood lo hi p (true or-refuse n ∷ cs) r x l h y = sound-stood lo hi p cs r (x .1) l h y
+  sound-stood lo hi p (false or-refuse n ∷ cs) r x l h y = record { number = x .0; from = l; to = h }
 
-sound-stood : {B : Type 0} (lo hi p : ℕ) (cs : List Check) (r : Result B) → Faults cs → lo ≤ p → p ≤ hi → Stands-within lo hi r → Stands-within lo hi (sound cs p >> r)
-unfolding sound need _>>_
-sound-stood lo hi p [] r x l h y = y
-sound-stood lo hi p (true or-refuse n ∷ cs) r x l h y = sound-stood lo hi p cs r (x .1) l h y
-sound-stood lo hi p (false or-refuse n ∷ cs) r x l h y = record { fault = x .0; from = l; to = h }
+  wider : {A : Type 0} (lo hi lo′ hi′ : ℕ) (r : Result A) → lo ≤ lo′ → hi′ ≤ hi → Stands-within lo′ hi′ r → Stands-within lo hi r
+  wider lo hi lo′ hi′ (refused n p) l h x = record { number = x .number; from = omega (arith, x .from); to = omega (arith, x .to) }
+  wider lo hi lo′ hi′ (accepted a) l h x = tt
 
-wider : {A : Type 0} (lo hi lo′ hi′ : ℕ) (r : Result A) → lo ≤ lo′ → hi′ ≤ hi → Stands-within lo′ hi′ r → Stands-within lo hi r
-wider lo hi lo′ hi′ (refused n p) l h x = record { fault = x .fault; from = omega (arith, x .from); to = omega (arith, x .to) }
-wider lo hi lo′ hi′ (accepted a) l h x = tt
+  module _ (low : (n : ℕ) → Fault n → Ok n) (asked : Content) (F : (t : ℕ) (v : List ℕ) → Numbers Ok (asked t v)) {X : Type 0} (byte : X → ℕ) where
+    front-stood : (h : Holder) (d before p : ℕ) (x : X) (s : List X) → Stands-within p (p + length (x ∷ s)) (front byte h d before p x s)
+    unfolding front
+    front-stood h d before p x s =
+        let at : (n : ℕ) → Fault n → Stood p (p + length (x ∷ s)) n p = λ n f. record { number = low n f; from = le-refl p; to = omega arith } in
+        need-stood _ _ _ 3 p _ (at 3 (omega arith)) λ _.
+        need-stood _ _ _ 4 p _ (at 4 (omega arith)) λ _.
+        need-stood _ _ _ 3 p _ (at 3 (omega arith)) λ _.
+        need-stood _ _ _ 5 p _ (at 5 (omega arith)) λ _.
+        need-stood _ _ _ 6 p _ (at 6 (omega arith)) λ _.
+        tt
 
-module _ {X : Type 0} (byte : X → ℕ) where
-  front-stood : (h : Holder) (d before p : ℕ) (x : X) (s : List X) → Stands-within p (p + length (x ∷ s)) (front byte h d before p x s)
-  unfolding front
-  front-stood h d before p x s =
-      let at : (n : ℕ) → Fault n → Stood p (p + length (x ∷ s)) n p = λ n f. record { fault = f; from = le-refl p; to = omega arith } in
-      need-stood _ _ _ 3 p _ (at 3 (omega arith)) λ _.
-      need-stood _ _ _ 4 p _ (at 4 (omega arith)) λ _.
-      need-stood _ _ _ 3 p _ (at 3 (omega arith)) λ _.
-      need-stood _ _ _ 5 p _ (at 5 (omega arith)) λ _.
-      need-stood _ _ _ 6 p _ (at 6 (omega arith)) λ _.
-      tt
+    complete-numbers : (h : Holder) (ts : List ℕ) → Numbers Ok (complete h ts)
+    unfolding complete
+    complete-numbers in-fragment ts = tt
+    complete-numbers in-block ts = tt
+    complete-numbers in-text ts = (low 5 (omega arith), tt)
+    complete-numbers in-anchor ts = (low 5 (omega arith), tt)
+    complete-numbers in-styles ts = (low 8 (omega arith), (low 8 (omega arith), tt))
 
-module _ (asked : Content) (F : (t : ℕ) (v : List ℕ) → Faults (asked t v)) {X : Type 0} (byte : X → ℕ) where
-  valued-stood : (o : Option Holder) (t p hi : ℕ) (v : List X) (sub : Holder → Result (Fields X)) → p ≤ hi
-      → ((h : Holder) → Stands-within p hi (sub h)) → Stands-within p hi (valued asked byte o t p v sub)
-  unfolding valued
-  valued-stood none t p hi v sub l ih = sound-stood p hi p (asked t (map byte v)) _ (F t (map byte v)) (le-refl p) l tt
-  valued-stood (some h) t p hi v sub l ih =
-      bind-stood p hi _ _ (ih h) λ i _. sound-stood p hi p (complete h (tags i)) _ (complete-faults h (tags i)) (le-refl p) l tt
+    valued-stood : (o : Option Holder) (t p hi : ℕ) (v : List X) (sub : Holder → Result (Fields X)) → p ≤ hi
+        → ((h : Holder) → Stands-within p hi (sub h)) → Stands-within p hi (valued asked byte o t p v sub)
+    unfolding valued
+    valued-stood none t p hi v sub l ih = sound-stood p hi p (asked t (map byte v)) _ (F t (map byte v)) (le-refl p) l tt
+    valued-stood (some h) t p hi v sub l ih =
+        bind-stood p hi _ _ (ih h) λ i _. sound-stood p hi p (complete h (tags i)) _ (complete-numbers h (tags i)) (le-refl p) l tt
 
-  walk-stood : (k : ℕ) (h : Holder) (d before p : ℕ) (s : List X) → Stands-within p (p + length s) (walk asked byte k h d before p s)
-  unfolding walk
-  walk-stood zero h d before p s = tt
-  walk-stood (suc k) h d before p [] = tt
-  walk-stood (suc k) h d before p (x ∷ s) =
-      let hi = p + length (x ∷ s) in
-      bind-stood p hi _ _ (front-stood byte h d before p x s) λ f ef.
-      let (inner, after) = front-fits byte h d before p x s f ef in
-      bind-stood p hi _ _
-      (valued-stood (holds (f .tag)) (f .tag) p hi (f .value) _ (omega arith)
-      (λ h′. wider p hi (p + 3) (p + 3 + length (f .value)) (walk asked byte k h′ (depth-in (f .tag) d) 0 (p + 3) (f .value)) (omega arith) inner (walk-stood k h′ (depth-in (f .tag) d) 0 (p + 3) (f .value)))) λ v _.
-      bind-stood p hi _ _
-      (wider p hi (p + (3 + length (f .value))) (p + (3 + length (f .value)) + length (f .rest)) (walk asked byte k h d (f .tag) (p + (3 + length (f .value))) (f .rest)) (omega arith) after
-      (walk-stood k h d (f .tag) (p + (3 + length (f .value))) (f .rest))) λ r _.
-      tt
+    walk-stood : (k : ℕ) (h : Holder) (d before p : ℕ) (s : List X) → Stands-within p (p + length s) (walk asked byte k h d before p s)
+    unfolding walk
+    walk-stood zero h d before p s = tt
+    walk-stood (suc k) h d before p [] = tt
+    walk-stood (suc k) h d before p (x ∷ s) =
+        let hi = p + length (x ∷ s) in
+        bind-stood p hi _ _ (front-stood h d before p x s) λ f ef.
+        let (inner, after) = front-fits byte h d before p x s f ef in
+        bind-stood p hi _ _
+        (valued-stood (holds (f .tag)) (f .tag) p hi (f .value) _ (omega arith)
+        (λ h′. wider p hi (p + 3) (p + 3 + length (f .value)) (walk asked byte k h′ (depth-in (f .tag) d) 0 (p + 3) (f .value)) (omega arith) inner (walk-stood k h′ (depth-in (f .tag) d) 0 (p + 3) (f .value)))) λ v _.
+        bind-stood p hi _ _
+        (wider p hi (p + (3 + length (f .value))) (p + (3 + length (f .value)) + length (f .rest)) (walk asked byte k h d (f .tag) (p + (3 + length (f .value))) (f .rest)) (omega arith) after
+        (walk-stood k h d (f .tag) (p + (3 + length (f .value))) (f .rest))) λ r _.
+        tt
 
 -- what a refused file is: too long, or at fault in the walk
 pub data Refusable (s : List ℕ) (n p : ℕ) : Type 0 where
@@ -127,16 +126,16 @@ pub data Refusable (s : List ℕ) (n p : ℕ) : Type 0 where
 -- A REFUSED FILE'S PLACE IS AT MOST ITS LENGTH
 pub refused-place : (s : List ℕ) (n p : ℕ) → tree s ≡ refused n p → Refusable s n p
 unfolding tree read check _>>=_ _>>_ need
-refused-place s n p e = go (leb (length s) most-bytes) (walk content itself (length s) in-fragment 0 0 0 s) refl (walk-stood content content-faults itself (length s) in-fragment 0 0 0 s) e
+refused-place s n p e = go (leb (length s) most-bytes) (walk content itself (length s) in-fragment 0 0 0 s) refl (walk-stood Fault (λ n f. f) content content-faults itself (length s) in-fragment 0 0 0 s) e
   where
-    go : (b : Bool) (r : Result (Fields ℕ)) → b ≡ leb (length s) most-bytes → Stands-within 0 (0 + length s) r
+    go : (b : Bool) (r : Result (Fields ℕ)) → b ≡ leb (length s) most-bytes → Stands-within Fault 0 (0 + length s) r
         → ((need b 1 0 >> r) >>= (λ i. accepted (frag-of itself i))) ≡ refused n p → Refusable s n p
     go false r q S e = too-long (cc) (cc) (leb-false (length s) most-bytes (sym q))
     go true (accepted i) q S e = no-path (cc)
     go true (refused m r) q S e =
         let x : m ≡ n = cc in
         let y : r ≡ p = cc in
-        at-fault (rw x at (S .fault)) (omega (arith, S .to)) (leb-true (length s) most-bytes (sym q))
+        at-fault (rw x at (S .number)) (omega (arith, S .to)) (leb-true (length s) most-bytes (sym q))
 
 -- ONE VERDICT: every file, a cut one too, is accepted or refused, and never both
 pub data Verdict (s : List ℕ) : Type 0 where

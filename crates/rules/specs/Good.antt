@@ -29,7 +29,7 @@ pub record Stands (h : Holder) (d before t n : ℕ) : Type 0 where
   pub length-right : right-length t n ≡ true
   pub not-deep : (is-block t && leb most-blocks d) ≡ false
 
--- every test holds, in whatever order
+-- every test holds
 abbrev pub AllHold : List Check → Type 0
 AllHold [] = Unit {0}
 AllHold (b or-refuse n ∷ cs) = (b ≡ true) × AllHold cs

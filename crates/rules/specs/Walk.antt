@@ -50,7 +50,7 @@ is-block t = eqb t 3 || eqb t 4
 
 -- ---- what is asked of a value, in document 01's order
 
--- of a value of bytes, by its tag. The walk is given a content, so that whoever asks for more walks alike
+-- the checks of a value of bytes, by its tag. The walk is given them, so that a check that asks for more is the same walk
 abbrev pub Content : Type 0
 Content = ℕ → List ℕ → List Check
 
@@ -79,7 +79,7 @@ content t v =
     if eqb t 35 then right-size (number v) or-refuse 8 ∷ [] else
     []
 
--- of the tags that a value of fields has together: a text, a name, a colour to each opacity, not both scripts
+-- the checks of the tags that a value of fields has together: a text; a name; colour where there is opacity, and not both scripts
 unfoldable pub complete : Holder → List ℕ → List Check
 complete in-fragment tags = []
 complete in-block tags = []
@@ -141,8 +141,8 @@ module _ (asked : Content) {X : Type 0} (byte : X → ℕ) where
     sound (complete h (tags i)) p
     accepted (of-fields i)
 
-  -- the fields s in the holder h, inside d blocks, from the place p on, after the tag before; k bounds how many bytes there are, so that with no k
-  -- left no byte is: `Fuel.enough` proves that no k from the length on answers otherwise
+  -- the fields s in the holder h, inside d blocks, from the place p on, after the tag before. k is fuel, as many fields as
+  -- there are bytes: where it is used up no byte is left, since more of it changes nothing (`Fuel.enough`)
   unfoldable pub walk : ℕ → Holder → (d before p : ℕ) → List X → Result (Fields X)
   walk zero h d before p s = accepted end
   walk (suc k) h d before p [] = accepted end
