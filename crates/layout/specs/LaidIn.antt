@@ -4,6 +4,7 @@ use Prim.Native.Nat.{ℕ, zero, suc, _+_, _-_, max}
 use lib.Dec.{leb, eqb}
 use lib.ListN.{length, getD, drop, set}
 use mathlib.Core.Bool.{Bool, true, false}
+use Rattle.rules.specs.Limits.{indentation}
 use Rattle.rules.specs.Bytes.{if_then_else_, cap}
 use Rattle.rules.specs.Layout.{Shape, Inline, Block, _⊕_, room}
 use Rattle.rules.specs.Ahead.{stretch}
@@ -77,12 +78,12 @@ unfoldable pub node-in : ((i b : ℕ) → List ℕ → Laid × List ℕ) → (i 
 node-in g i b so-far h =
     if eqb (getD h 0 0) 3
     then
-    (let x : Laid × List ℕ = fragments-in (g (b - 20) (b - 20)) h in
+    (let x : Laid × List ℕ = fragments-in (g (b - indentation) (b - indentation)) h in
     ((so-far ⊕ Block 0 0, x .0 .1), x .1))
     else
     (if eqb (getD h 0 0) 4
     then
-    (let x : Laid × List ℕ = fragments-in (g (max (room i b so-far) (b - 20)) (b - 20)) h in
+    (let x : Laid × List ℕ = fragments-in (g (max (room i b so-far) (b - indentation)) (b - indentation)) h in
     decided (room i b so-far) so-far (x .0 .0) (x .0 .1) (x .1))
     else ((so-far, 0), h))
 

@@ -9,6 +9,7 @@ use crate::stretch::Stretch;
 use crate::stretch::behind;
 use crate::stretch::entered;
 use parts::field_end;
+use rules::INDENTATION;
 use shapes::ApproxLayout;
 use shapes::append;
 use shapes::block_or_mixed;
@@ -19,9 +20,6 @@ ghost use Rattle.shapes.specs.Shapes.{shape};
 ghost use Rattle.parts.specs.Walk.{Is};
 ghost use Rattle.layout.specs.Said.{said};
 ghost use Rattle.layout.specs.LaidIn.{flex-in, fragments-in, fragment-in};
-
-// What a block's lines are indented by.
-const INDENT: u16 = 20;
 
 // A node, whose whole field is s, after what is laid out so far.
 fn approx_flex_layout(s: &mut [u8], widths: MaxWidths, so_far: ApproxLayout, left: usize) -> Laid
@@ -34,7 +32,7 @@ fn approx_flex_layout(s: &mut [u8], widths: MaxWidths, so_far: ApproxLayout, lef
         return laid_out(so_far, 0);
     }
     let tag = s[0];
-    let block = saturating_sub(widths.block, INDENT);
+    let block = saturating_sub(widths.block, INDENTATION);
     if tag == 3 {
         let l = approx_fragments_layout(
             s,

@@ -2,21 +2,20 @@
 use crate::choice::MaxWidths;
 use crate::flex::approx_layout;
 use rules::Answer;
+use rules::MOST_BLOCKS;
+use rules::MOST_BYTES;
+use rules::MOST_COLUMNS;
 use rules::Refusal;
-use verify::front::MAX_DEPTH;
-use verify::walk::MAX_FILE;
 use verify::walk::check;
 ghost use mathlib.Core.Path.{_≡_};
 ghost use Prim.Native.Nat.{_*_, _≤_};
+ghost use Rattle.rules.specs.Limits.{most-columns};
 ghost use Rattle.rules.specs.Result as Result;
 ghost use Rattle.rules.specs.Answers.{layout-outcome};
 
-// The widest line.
-const MAX_WIDTH: usize = 6553;
-
 // A width in tenths of a column.
 fn tenths(width: usize) -> u16
-    requires { ⌜ width ≤ 6553 ⌝ }
+    requires { ⌜ width ≤ most-columns ⌝ }
     ensures { λ r. ⌜ r ≡ 10 * width ⌝ }
 {
     10 * (width as u16)
@@ -26,10 +25,10 @@ fn tenths(width: usize) -> u16
 pub fn layout_with_max_line_width(file: &mut [u8], width: usize) -> Answer
     ensures { λ r. ⌜ (Result.said r, now (file .exit)) ≡ layout-outcome width (now (file .entry)) ⌝ }
 {
-    if MAX_FILE < file.len() {
+    if MOST_BYTES < file.len() {
         return Answer::Refused(Refusal::TooLong);
     }
-    if MAX_WIDTH < width {
+    if MOST_COLUMNS < width {
         return Answer::Refused(Refusal::TooWide);
     }
     let a = check(file);
@@ -44,7 +43,7 @@ pub fn layout_with_max_line_width(file: &mut [u8], width: usize) -> Answer
             inline: w,
             block: w,
         },
-        MAX_DEPTH,
+        MOST_BLOCKS,
     );
     Answer::Done(l.changed as usize)
 }

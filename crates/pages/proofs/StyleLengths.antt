@@ -18,7 +18,7 @@ use Rattle.rules.specs.Sizes.{signed-decimal, opacity-text, em-text}
 use Rattle.rules.specs.Walk.{Fields, end, bytes, inside, in-styles, right-length, right-opacity, right-size, content}
 use Rattle.rules.specs.Tree.{Styles, bytes-of, signed-byte, styles-of}
 use Rattle.rules.specs.Encode.{field, encode-fields}
-use Rattle.rules.specs.Good.{Bytes, Good}
+use Rattle.rules.specs.Good.{Bytes, AllHold, Good}
 use Rattle.rules.specs.Layout.{or-script, effective}
 use Rattle.rules.specs.Html.{separated, colour-css, weight-css, size-css, script, css, tag-name, attribute, open-tag, close-tag}
 use Rattle.rules.proofs.EmSizes.{AcceptedSize}
@@ -47,7 +47,7 @@ bytes-here t v r z = split-bytes v (encode-fields r) (z .1 .1 .1)
 
 record Value (t : ℕ) (v : List ℕ) : Type 0 where
   long : right-length t (length v) ≡ true
-  sound : content t v ≡ 0
+  sound : AllHold (content t v)
   small : Bytes v
 
 abbrev IfThere : ℕ → Option (List ℕ) → Type 0
@@ -132,11 +132,6 @@ opacity-most bits e =
     let one : length (digits (n / 10 ^ p)) ≡ 1 = rw (digits-small (n / 10 ^ p) (omega arith)) refl in
     omega (arith, length-append (digits (n / 10 ^ p)) (fraction p n), one, fraction-most p n, places-few bits e)
 
--- a test that chooses between no fault and one came out true
-no-fault : (b : Bool) → _≡_ {A = ℕ} (if b then 0 else 8) 0 → b ≡ true
-no-fault true e = refl
-no-fault false e = absurd (omega arith)
-
 colour-most : (c o : Option (List ℕ)) → IfThere 32 c → IfThere 33 o → length (colour-css c (Option·map number o)) ≤ 37
 unfolding colour-css ascii right-length content
 colour-most none o C O = omega arith
@@ -147,7 +142,7 @@ colour-most (some v) (some w) C O =
       arith,
       length-join (ascii "color:rgba(" ∷ separated digits (ascii ",") v ∷ ascii "," ∷ opacity-text (number w) ∷ ascii ");" ∷ []),
       three-digits v (eqb-true (length v) 3 (C .long)) (C .small),
-      opacity-most (number w) (no-fault (right-opacity (number w)) (O .sound)),
+      opacity-most (number w) (O .sound .0),
     )
 
 -- ---- a thickness and a size: signed bytes
@@ -191,7 +186,7 @@ size-most none false O = omega arith
 size-most none true O = em-most (negsuc 1) true (omega arith)
 size-most (some v) script O =
     let b : number v < 256 = one-byte v (eqb-true (length v) 1 (O .long)) (O .small) in
-    em-most (signed (number v)) script (signed-size (number v) b (no-fault (right-size (number v)) (O .sound)))
+    em-most (signed (number v)) script (signed-size (number v) b (O .sound .0))
 
 -- ---- the tags
 

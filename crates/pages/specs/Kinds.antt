@@ -2,6 +2,7 @@
 use mathlib.Core.List.{List, [], _++_}
 use mathlib.Core.Bool.{false}
 use Prim.Native.Nat.{ℕ}
+use Rattle.rules.specs.Limits.{most-blocks}
 use Rattle.rules.specs.Bytes.{newline}
 use Rattle.rules.specs.Result.{Result}
 use Rattle.rules.specs.Tree.{Frag}
@@ -32,7 +33,7 @@ foot K.the-variants.Document = closing ++ after-body
 
 -- the page of some bytes, whether they are a file or not
 unfoldable pub page-in : K.Kind → List ℕ → List ℕ
-page-in k s = head k ++ (shown (form-of k) (run start (fragment-in 32 false 0 s)) ++ foot k)
+page-in k s = head k ++ (shown (form-of k) (run start (fragment-in most-blocks false 0 s)) ++ foot k)
 
 -- the page of a tree
 unfoldable pub page-of : K.Kind → Frag ℕ → List ℕ

@@ -8,8 +8,8 @@ use crate::state::state_of;
 use crate::walk::render_fragment;
 use lines::start;
 use rules::Answer;
+use rules::MOST_BLOCKS;
 use rules::Refusal;
-use verify::front::MAX_DEPTH;
 use verify::walk::check;
 ghost use mathlib.Core.Path.{_≡_};
 ghost use Rattle.rules.specs.Result.{said};
@@ -25,7 +25,7 @@ fn render(kind: Kind, file: &[u8], page: &mut [u8]) -> usize
         at,
         state: state_of(start(), form_of(kind)),
     };
-    let p = render_fragment(file, 0, page, pen, false, MAX_DEPTH);
+    let p = render_fragment(file, 0, page, pen, false, MOST_BLOCKS);
     put_foot(page, p.at, kind)
 }
 

@@ -6,10 +6,14 @@ use hazomeny::layout_file;
 use hazomeny::plain_page;
 use libc::STDOUT_FILENO;
 use rules::Answer;
+use rules::MOST_BYTES;
 use rules::Refusal;
 use telling::end_line;
 use telling::tell_refusal;
 ghost use Rattle.printing.specs.Shown.{Shown};
+
+// Room for the input: two bytes of width, and one byte more than a file may have: a longer one is refused, and no more of it is read.
+pub const INPUT: usize = 2 + MOST_BYTES + 1;
 
 // What is printed of the file.
 pub enum Wanted {

@@ -6,6 +6,7 @@ ghost use Rattle.rigid.specs.RigidIn.{wide, last-long, text-in, run-in, 
 use fields::Field;
 use fields::field_at;
 use parts::field_end;
+use rules::MOST_TENTHS;
 use shapes::ApproxLayout;
 use shapes::append;
 use shapes::block_or_mixed;
@@ -18,6 +19,9 @@ use texts::first_line_end;
 // The width of a byte without a style.
 const BYTE: u16 = 10;
 
+// The cap of widths, among counts.
+const CAP: usize = MOST_TENTHS as usize;
+
 // n bytes, each w tenths of a column wide.
 fn columns(n: usize, w: u16) -> u16
     ensures { λ r. ⌜ r ≡ wide n w ⌝ }
@@ -25,12 +29,12 @@ fn columns(n: usize, w: u16) -> u16
     if w == 0 {
         return 0;
     }
-    if 65535 < n {
-        return 65535;
+    if CAP < n {
+        return MOST_TENTHS;
     }
     let all = n * (w as usize);
-    if 65535 < all {
-        return 65535;
+    if CAP < all {
+        return MOST_TENTHS;
     }
     all as u16
 }

@@ -8,11 +8,12 @@ use native.Mathlib.Omega.{arith}
 use lib.Dec.{leb}
 use lib.ListN.{length, take, drop, length-take, length-drop, take-append-drop}
 use borrow.Author.Tests.{leb-true, not-true}
+use Rattle.rules.specs.Limits.{most-blocks}
 use Rattle.rules.specs.Bytes.{number, number-from}
 use Rattle.rules.specs.Result.{Result, accepted}
-use Rattle.rules.specs.Walk.{Fields, end, Holder, Field, front, valued, Value, of-bytes, of-fields, put, walk, content, holds, allowed, right-length, is-block}
+use Rattle.rules.specs.Walk.{Fields, end, Holder, Field, front, valued, Value, of-bytes, of-fields, put, Content, walk, holds, allowed, right-length, is-block}
 use Rattle.rules.specs.Encode.{field, encode-fields}
-use Rattle.rules.specs.Good.{Bytes, depth-in, Stands, Good}
+use Rattle.rules.specs.Good.{Bytes, depth-in, Stands, AllHold, GoodAs}
 use Rattle.rules.specs.Answers.{itself}
 use Rattle.rules.proofs.Chains.{bind-inv, need-inv, sound-inv}
 
@@ -70,7 +71,7 @@ front-inv h d before p x s f bs e =
     go s f bs (leb-true _ _ (e₁ .0)) (leb-true _ _ (e₃ .0)) (e₂ .0) (e₄ .0) (not-true _ (e₅ .0)) (e₅ .1)
   where
     go : (s : List ℕ) (f : Field ℕ) → Bytes s → 2 ≤ length s → number (map itself (take 2 s)) ≤ length s - 2
-        → allowed h before x ≡ true → right-length x (number (map itself (take 2 s))) ≡ true → (is-block x && leb 32 d) ≡ false
+        → allowed h before x ≡ true → right-length x (number (map itself (take 2 s))) ≡ true → (is-block x && leb most-blocks d) ≡ false
         → accepted (record { tag = x; value = take (number (map itself (take 2 s))) (drop 2 s); rest = drop (number (map itself (take 2 s))) (drop 2 s) }) ≡ accepted f
         → Fronted h d before x s f
     go [] f bs l₁ l₂ a r deep e = absurd (omega arith)
@@ -94,51 +95,50 @@ front-inv h d before p x s f bs e =
           out-bytes = drop-bytes n s (bs .1 .1);
         })
 
--- ---- its value
+-- ---- its value, and the walk, for any content
 
--- some fields that begin with the value g of a t: good, and the encoding of the field, where what follows is good
-abbrev Passed : Holder → ℕ → ℕ → ℕ → List ℕ → Value ℕ → Type 0
-Passed h d before t v g = (r : Fields ℕ) → Good h d t r → Good h d before (put t g r) × (encode-fields (put t g r) ≡ field t v ++ encode-fields r)
+module _ (asked : Content) where
+  -- some fields that begin with the value g of a t: good, and the encoding of the field, where what follows is good
+  abbrev Passed : Holder → ℕ → ℕ → ℕ → List ℕ → Value ℕ → Type 0
+  Passed h d before t v g = (r : Fields ℕ) → GoodAs asked h d t r → GoodAs asked h d before (put t g r) × (encode-fields (put t g r) ≡ field t v ++ encode-fields r)
 
-valued-inv : (h : Holder) (d before t p : ℕ) (v : List ℕ) (o : Option Holder) (read : Holder → Result (Fields ℕ)) (g : Value ℕ)
-    → holds t ≡ o → Stands h d before t (length v) → valued itself o t p v read ≡ accepted g
-    → ((h′ : Holder) (i : Fields ℕ) → read h′ ≡ accepted i → Good h′ (depth-in t d) 0 i × (encode-fields i ≡ v))
-    → Passed h d before t v g
-unfolding valued encode-fields
-valued-inv h d before t p v none read g eo S e ih r G =
-    let (c, e₁) = sound-inv _ _ _ _ e in
-    let eg : of-bytes v ≡ g = cc in
-    subst (λ (g : Value ℕ). Good h d before (put t g r) × (encode-fields (put t g r) ≡ field t v ++ encode-fields r)) eg
-    ((S, eo, ap (content t) (sym (map-itself v)) ∙ c, G), refl)
-valued-inv h d before t p v (some h′) read g eo S e ih r G =
-    let (i, ei, e₁) = bind-inv _ _ _ e in
-    let (c, e₂) = sound-inv _ _ _ _ e₁ in
-    let eg : of-fields i ≡ g = cc in
-    let (Gi, ev) = ih h′ i ei in
-    subst (λ (g : Value ℕ). Good h d before (put t g r) × (encode-fields (put t g r) ≡ field t v ++ encode-fields r)) eg
-    ((subst (λ (v : List ℕ). Stands h d before t (length v)) (sym ev) S, (h′, eo, c, Gi), G), ap (λ (u : List ℕ). field t u ++ encode-fields r) ev)
+  valued-inv : (h : Holder) (d before t p : ℕ) (v : List ℕ) (o : Option Holder) (read : Holder → Result (Fields ℕ)) (g : Value ℕ)
+      → holds t ≡ o → Stands h d before t (length v) → valued asked itself o t p v read ≡ accepted g
+      → ((h′ : Holder) (i : Fields ℕ) → read h′ ≡ accepted i → GoodAs asked h′ (depth-in t d) 0 i × (encode-fields i ≡ v))
+      → Passed h d before t v g
+  unfolding valued encode-fields
+  valued-inv h d before t p v none read g eo S e ih r G =
+      let (c, e₁) = sound-inv _ _ _ _ e in
+      let eg : of-bytes v ≡ g = cc in
+      subst (λ (g : Value ℕ). GoodAs asked h d before (put t g r) × (encode-fields (put t g r) ≡ field t v ++ encode-fields r)) eg
+      ((S, eo, subst (λ (u : List ℕ). AllHold (asked t u)) (map-itself v) c, G), refl)
+  valued-inv h d before t p v (some h′) read g eo S e ih r G =
+      let (i, ei, e₁) = bind-inv _ _ _ e in
+      let (c, e₂) = sound-inv _ _ _ _ e₁ in
+      let eg : of-fields i ≡ g = cc in
+      let (Gi, ev) = ih h′ i ei in
+      subst (λ (g : Value ℕ). GoodAs asked h d before (put t g r) × (encode-fields (put t g r) ≡ field t v ++ encode-fields r)) eg
+      ((subst (λ (v : List ℕ). Stands h d before t (length v)) (sym ev) S, (h′, eo, c, Gi), G), ap (λ (u : List ℕ). field t u ++ encode-fields r) ev)
 
--- ---- the walk
+  end-good : (h : Holder) (d before : ℕ) (i : Fields ℕ) → accepted end ≡ accepted i → GoodAs asked h d before i × (encode-fields i ≡ [])
+  unfolding encode-fields
+  end-good h d before i e = let ei : end ≡ i = cc in subst (λ (i : Fields ℕ). GoodAs asked h d before i × (encode-fields i ≡ [])) ei (tt, refl)
 
-end-good : (h : Holder) (d before : ℕ) (i : Fields ℕ) → accepted end ≡ accepted i → Good h d before i × (encode-fields i ≡ [])
-unfolding encode-fields
-end-good h d before i e = let ei : end ≡ i = cc in subst (λ (i : Fields ℕ). Good h d before i × (encode-fields i ≡ [])) ei (tt, refl)
-
-pub walk-good : (k : ℕ) (h : Holder) (d before p : ℕ) (s : List ℕ) (i : Fields ℕ) → length s ≤ k → Bytes s
-    → walk itself k h d before p s ≡ accepted i → Good h d before i × (encode-fields i ≡ s)
-unfolding walk
-walk-good zero h d before p [] i l bs e = end-good h d before i e
-walk-good zero h d before p (x ∷ s) i l bs e = absurd (omega arith)
-walk-good (suc k) h d before p [] i l bs e = end-good h d before i e
-walk-good (suc k) h d before p (x ∷ s) i l bs e =
-    let (f, ef, e₁) = bind-inv _ _ _ e in
-    let (g, eg, e₂) = bind-inv _ _ _ e₁ in
-    let (r, er, e₃) = bind-inv _ _ _ e₂ in
-    let F : Fronted h d before x s f = front-inv h d before p x s f (bs .1) ef in
-    let ei : put (f .tag) g r ≡ i = cc in
-    let (Gr, ir) = walk-good k h d (f .tag) _ (f .rest) r (omega arith) (F .out-bytes) er in
-    let (Gi, ii) =
-    valued-inv h d before (f .tag) p (f .value) (holds (f .tag)) _ g refl (F .stands) eg
-    (λ h′ j. walk-good k h′ _ _ _ (f .value) j (omega arith) (F .in-bytes)) r Gr in
-    subst (λ (i : Fields ℕ). Good h d before i × (encode-fields i ≡ x ∷ s)) ei
-    (Gi, ii ∙ ap (λ (u : List ℕ). field (f .tag) (f .value) ++ u) ir ∙ sym (F .whole))
+  pub walk-good : (k : ℕ) (h : Holder) (d before p : ℕ) (s : List ℕ) (i : Fields ℕ) → length s ≤ k → Bytes s
+      → walk asked itself k h d before p s ≡ accepted i → GoodAs asked h d before i × (encode-fields i ≡ s)
+  unfolding walk
+  walk-good zero h d before p [] i l bs e = end-good h d before i e
+  walk-good zero h d before p (x ∷ s) i l bs e = absurd (omega arith)
+  walk-good (suc k) h d before p [] i l bs e = end-good h d before i e
+  walk-good (suc k) h d before p (x ∷ s) i l bs e =
+      let (f, ef, e₁) = bind-inv _ _ _ e in
+      let (g, eg, e₂) = bind-inv _ _ _ e₁ in
+      let (r, er, e₃) = bind-inv _ _ _ e₂ in
+      let F : Fronted h d before x s f = front-inv h d before p x s f (bs .1) ef in
+      let ei : put (f .tag) g r ≡ i = cc in
+      let (Gr, ir) = walk-good k h d (f .tag) _ (f .rest) r (omega arith) (F .out-bytes) er in
+      let (Gi, ii) =
+      valued-inv h d before (f .tag) p (f .value) (holds (f .tag)) _ g refl (F .stands) eg
+      (λ h′ j. walk-good k h′ _ _ _ (f .value) j (omega arith) (F .in-bytes)) r Gr in
+      subst (λ (i : Fields ℕ). GoodAs asked h d before i × (encode-fields i ≡ x ∷ s)) ei
+      (Gi, ii ∙ ap (λ (u : List ℕ). field (f .tag) (f .value) ++ u) ir ∙ sym (F .whole))

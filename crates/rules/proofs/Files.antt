@@ -9,12 +9,13 @@ use Prim.Native.Nat.{ℕ}
 use native.Mathlib.Nat.{le-refl}
 use lib.ListN.{length}
 use borrow.Author.Tests.{leb-true, le-leb}
+use Rattle.rules.specs.Limits.{most-bytes}
 use Rattle.rules.specs.Bytes.{has}
 use Rattle.rules.specs.Result.{accepted, need, _>>_, _>>=_}
-use Rattle.rules.specs.Walk.{Fields, in-fragment, check, tags}
+use Rattle.rules.specs.Walk.{Fields, in-fragment, Content, content, check, tags}
 use Rattle.rules.specs.Tree.{Run, Leaf, text, anchor, space, force, if-block, indented, flexible, Frag, stop, leaf, block, Frags, none-left, frag, read, frag-of, frags-of, run-of, runs-of, anchor-of, bytes-of, fields-of, or-empty}
 use Rattle.rules.specs.Encode.{encode, encode-fields, frag-fields, frags-fields, leaf-fields, run-fields, runs-fields, anchor-tag, block-tag}
-use Rattle.rules.specs.Good.{Bytes, Good, GoodTree}
+use Rattle.rules.specs.Good.{Bytes, GoodAs, GoodTreeAs, GoodTree}
 use Rattle.rules.specs.Answers.{itself, tree}
 use Rattle.rules.proofs.Chains.{need-inv, bind-inv}
 use Rattle.rules.proofs.Accepted.{walk-good}
@@ -63,41 +64,55 @@ mutual
   frags-back none-left = refl
   frags-back (frag f fs) = ap₂ frag (frag-back f) (frags-back fs)
 
--- ---- the theorem
+-- ---- the theorem, for any content
 
 -- what an accepted file is: the fields that the check read, which are the tree's
-pub record Read (s : List ℕ) (t : Frag ℕ) : Type 0 where
-  pub checked : check itself s ≡ accepted (frag-fields t)
+pub record ReadAs (asked : Content) (s : List ℕ) (t : Frag ℕ) : Type 0 where
+  pub checked : check asked itself s ≡ accepted (frag-fields t)
   pub encodes : encode t ≡ s
-  pub good : GoodTree t
+  pub good : GoodTreeAs asked t
+
+module _ {asked : Content} where
+  pub read-good : (s : List ℕ) (t : Frag ℕ) → Bytes s → read asked itself s ≡ accepted t → ReadAs asked s t
+  unfolding read check encode
+  read-good s t bs e =
+      let (i, h, e₁) = bind-inv _ _ _ e in
+      let (l, h₁) = need-inv _ _ _ _ _ h in
+      let (G, ei) = walk-good asked (length s) in-fragment 0 0 0 s i (le-refl _) bs h₁ in
+      let et : frag-of itself i ≡ t = cc in
+      let ef : i ≡ frag-fields t = sym (frag-right asked i 0 0 G) ∙ ap frag-fields et in
+      let es : encode-fields (frag-fields t) ≡ s = ap encode-fields (sym ef) ∙ ei in
+      record {
+        checked = h ∙ ap accepted ef;
+        encodes = es;
+        good = record { short = rw es (leb-true _ _ l); good = subst (λ (i : Fields ℕ). GoodAs asked in-fragment 0 0 i) ef G };
+      }
+
+  pub good-check : (t : Frag ℕ) → GoodTreeAs asked t → check asked itself (encode t) ≡ accepted (frag-fields t)
+  unfolding check encode need _>>_
+  good-check t G =
+      simp (le-leb (length (encode t)) most-bytes (G .short), good-walk asked (frag-fields t) (length (encode t)) in-fragment 0 0 0 (le-refl _) (G .good))
+
+  good-reads : (t : Frag ℕ) → GoodTreeAs asked t → read asked itself (encode t) ≡ accepted t
+  unfolding read _>>=_
+  good-reads t G = simp (good-check t G, frag-back t)
+
+  -- ACCEPTED EXACTLY WHEN IT IS THE ENCODING OF A GOOD TREE
+  pub accepted-iff-good : (s : List ℕ) (t : Frag ℕ) → Bytes s → (read asked itself s ≡ accepted t) ↔ (GoodTreeAs asked t × (encode t ≡ s))
+  accepted-iff-good s t bs = (
+    (λ e. let r = read-good s t bs e in (r .good, r .encodes)),
+    (λ h. subst (λ (s : List ℕ). read asked itself s ≡ accepted t) (h .1) (good-reads t (h .0))),
+  )
+
+-- ---- by document 01's content
+
+abbrev pub Read : List ℕ → Frag ℕ → Type 0
+Read s t = ReadAs content s t
 
 pub tree-read : (s : List ℕ) (t : Frag ℕ) → Bytes s → tree s ≡ accepted t → Read s t
-unfolding tree read check encode
-tree-read s t bs e =
-    let (i, h, e₁) = bind-inv _ _ _ e in
-    let (l, h₁) = need-inv _ _ _ _ _ h in
-    let (G, ei) = walk-good (length s) in-fragment 0 0 0 s i (le-refl _) bs h₁ in
-    let et : frag-of itself i ≡ t = cc in
-    let ef : i ≡ frag-fields t = sym (frag-right i 0 0 G) ∙ ap frag-fields et in
-    let es : encode-fields (frag-fields t) ≡ s = ap encode-fields (sym ef) ∙ ei in
-    record {
-      checked = h ∙ ap accepted ef;
-      encodes = es;
-      good = record { short = rw es (leb-true _ _ l); good = subst (λ (i : Fields ℕ). Good in-fragment 0 0 i) ef G };
-    }
-
-pub good-check : (t : Frag ℕ) → GoodTree t → check itself (encode t) ≡ accepted (frag-fields t)
-unfolding check encode need _>>_
-good-check t G =
-    simp (le-leb (length (encode t)) 60_000 (G .short), good-walk (frag-fields t) (length (encode t)) in-fragment 0 0 0 (le-refl _) (G .good))
+unfolding tree
+tree-read s t bs e = read-good s t bs e
 
 pub good-read : (t : Frag ℕ) → GoodTree t → tree (encode t) ≡ accepted t
-unfolding tree read _>>=_
-good-read t G = simp (good-check t G, frag-back t)
-
--- ACCEPTED EXACTLY WHEN IT IS THE ENCODING OF A GOOD TREE
-pub accepted-iff-good : (s : List ℕ) (t : Frag ℕ) → Bytes s → (tree s ≡ accepted t) ↔ (GoodTree t × (encode t ≡ s))
-accepted-iff-good s t bs = (
-  (λ e. let r = tree-read s t bs e in (r .good, r .encodes)),
-  (λ h. subst (λ (s : List ℕ). tree s ≡ accepted t) (h .1) (good-read t (h .0))),
-)
+unfolding tree
+good-read t G = good-reads t G

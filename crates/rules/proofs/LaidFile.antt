@@ -99,7 +99,7 @@ mutual
     (
       in-block,
       block-holds k′,
-      refl,
+      tt,
       subst (λ (d : ℕ). Good in-block d 0 (frags-fields fs′)) (block-deeper k k′ d)
           (goods-laid ls _ 0 (inner-good (block-tag k) d (frags-fields fs) in-block (block-holds k) (G .1))),
     ),
@@ -110,7 +110,7 @@ mutual
   goods-laid l-none d b G = tt
   goods-laid (l-frag {f = f} {f′ = f′} l ls) d b G = (
     subst (λ (n : ℕ). Stands in-block d b 8 n) (laid-length l) (G .0),
-    (in-fragment, refl, refl, good-laid l _ 0 (inner-good 8 d (frag-fields f) in-fragment refl (G .1))),
+    (in-fragment, refl, tt, good-laid l _ 0 (inner-good 8 d (frag-fields f) in-fragment refl (G .1))),
     goods-laid ls d 8 (G .2),
   )
 

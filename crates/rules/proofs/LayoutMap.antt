@@ -5,6 +5,7 @@ use mathlib.Core.Option.{Option, none}
 use mathlib.Core.Bool.{Bool, true, false}
 use Prim.Native.Nat.{ℕ, _*_, _-_, max}
 use lib.ListN.{length-map}
+use Rattle.rules.specs.Limits.{indentation}
 use Rattle.rules.specs.Bytes.{if_then_else_}
 use Rattle.rules.specs.Walk.{Fields}
 use Rattle.rules.specs.Tree.{Run, Leaf, text, anchor, space, force, if-block, Kind, indented, flexible, Frag, stop, leaf, block, Frags, none-left, frag}
@@ -90,9 +91,9 @@ module _ {X Y : Type 0} (f : X → Y) (newline : Y → Bool) where
         (leaf (map-leaf f n) (r′ .0), r′ .1)
     lay-map (block indented fs r) i b so =
         λ j. let r′ : Frag Y × Shape = lay-map r i b (past-map (Block 0 0) (so ⊕ Block 0 0) r j) j in
-        (block indented (lay-all-map fs (b - 20) (b - 20) (Inline 0 0) j .0) (r′ .0), r′ .1)
+        (block indented (lay-all-map fs (b - indentation) (b - indentation) (Inline 0 0) j .0) (r′ .0), r′ .1)
     lay-map (block flexible fs r) i b so =
-        λ j. let fs′ : Frags Y × Shape = lay-all-map fs (max (room i b so) (b - 20)) (b - 20) (Inline 0 0) j in
+        λ j. let fs′ : Frags Y × Shape = lay-all-map fs (max (room i b so) (b - indentation)) (b - indentation) (Inline 0 0) j in
         let c : Kind × Shape = chosen (room i b so) (fs′ .1) in
         let r′ : Frag Y × Shape = lay-map r i b (so ⊕ (c .1)) j in
         (block (c .0) (fs′ .0) (r′ .0), r′ .1)

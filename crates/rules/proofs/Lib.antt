@@ -2,6 +2,7 @@
 pub mod Open
 pub mod Examples
 pub mod Chains
+pub mod Fuel
 pub mod Accepted
 pub mod Encoded
 pub mod Typed

@@ -8,13 +8,14 @@ use native.Mathlib.Omega.{arith}
 use lib.Dec.{leb, ltb, eqb}
 use lib.ListN.{length, length-map, length-append, replicate}
 use borrow.Author.Tests.{leb-true, eqb-true, le-leb, ne-eqb}
+use Rattle.rules.specs.Limits.{most-bytes, first-style, last-style}
 use Rattle.rules.specs.Bytes.{if_then_else_, within, has}
 use Rattle.rules.specs.Utf8.{utf8, utf8-after, following}
 use Rattle.rules.specs.Result.{accepted}
-use Rattle.rules.specs.Walk.{Fields, end, bytes, inside, Holder, in-fragment, in-block, in-text, in-anchor, in-styles, content, complete, tags, holds, allowed}
+use Rattle.rules.specs.Walk.{Fields, end, bytes, inside, Holder, in-fragment, in-block, in-text, in-anchor, in-styles, text-content, content, complete, tags, holds, allowed}
 use Rattle.rules.specs.Tree.{Run, Leaf, text, anchor, space, force, if-block, Kind, indented, flexible, Frag, stop, leaf, block, Frags, none-left, frag}
 use Rattle.rules.specs.Encode.{field, encode-fields, frag-fields, frags-fields, leaf-fields, run-fields, runs-fields, anchor-tag, block-tag, encode}
-use Rattle.rules.specs.Good.{Bytes, Stands, Good, GoodTree}
+use Rattle.rules.specs.Good.{Bytes, Stands, AllHold, Good, GoodTree}
 use Rattle.rules.specs.Answers.{tree}
 use Rattle.rules.specs.Mask.{is-text, in-texts, accepted-texts, text-places, mask-byte, mask-bytes, mask}
 use Rattle.rules.proofs.Accepted.{map-itself}
@@ -111,9 +112,9 @@ module _ (kept : List ℕ) where
   style-not-text : (before t : ℕ) → allowed in-styles before t ≡ true → (is-text t ≡ false) × (holds t ≡ none)
   unfolding allowed is-text holds
   style-not-text before t h =
-      let w : within 32 38 t ≡ true = and-eq-true-iff (within 32 38 t) (ltb before t) .0 h .0 in
-      let l : 32 ≤ t = leb-true 32 t (and-eq-true-iff (leb 32 t) (leb t 38) .0 w .0) in
-      let ne : (k : ℕ) → k < 32 → eqb t k ≡ false = λ k lk. ne-eqb t k (λ (z : t ≡ k). omega arith) in (
+      let w : within first-style last-style t ≡ true = and-eq-true-iff (within first-style last-style t) (ltb before t) .0 h .0 in
+      let l : first-style ≤ t = leb-true first-style t (and-eq-true-iff (leb first-style t) (leb t last-style) .0 w .0) in
+      let ne : (k : ℕ) → k < first-style → eqb t k ≡ false = λ k lk. ne-eqb t k (λ (z : t ≡ k). omega arith) in (
         simp (ne 17 (omega arith), ne 7 (omega arith)),
         simp (ne 1 (omega arith), ne 2 (omega arith), ne 3 (omega arith), ne 4 (omega arith), ne 8 (omega arith), ne 16 (omega arith)),
       )
@@ -202,13 +203,13 @@ module _ (kept : List ℕ) where
       first : (x : ℕ) (w : List ℕ) → x < 128 → utf8-after [] (x ∷ w) ≡ utf8-after [] w
       first x w l = simp (le-leb 0 x (omega arith), le-leb x 0x7f (omega arith))
 
-  masked-content : Ascii kept → (t : ℕ) (v : List ℕ) → content t v ≡ 0 → content t (map (mask-byte kept (is-text t)) v) ≡ 0
-  unfolding content is-text
+  masked-content : Ascii kept → (t : ℕ) (v : List ℕ) → AllHold (content t v) → AllHold (content t (map (mask-byte kept (is-text t)) v))
+  unfolding content text-content is-text
   masked-content A t v c = go (is-text t) refl
     where
-      go : (b : Bool) → b ≡ is-text t → content t (map (mask-byte kept b) v) ≡ 0
-      go false q = ap (content t) (unmasked v) ∙ c
-      go true q = simp (sym q, masked-utf8 A v)
+      go : (b : Bool) → b ≡ is-text t → AllHold (content t (map (mask-byte kept b) v))
+      go false q = subst (λ (u : List ℕ). AllHold (content t u)) (sym (unmasked v)) c
+      go true q = simp (sym q) (masked-utf8 A v, tt)
 
   masked-tags : (i : Fields ℕ) → tags (mask-fields i) ≡ tags i
   unfolding tags mask-fields
@@ -227,7 +228,7 @@ module _ (kept : List ℕ) where
   )
   masked-good A (inside t i r) h d before G = (
     subst (λ (n : ℕ). Stands h d before t n) (sym (masked-length i)) (G .0),
-    (G .1 .0, G .1 .1, ap (complete (G .1 .0)) (masked-tags i) ∙ G .1 .2, masked-good A i (G .1 .0) _ 0 (G .1 .3)),
+    (G .1 .0, G .1 .1, subst (λ (ts : List ℕ). AllHold (complete (G .1 .0) ts)) (sym (masked-tags i)) (G .1 .2), masked-good A i (G .1 .0) _ 0 (G .1 .3)),
     masked-good A r h d t (G .2),
   )
 
@@ -245,7 +246,7 @@ module _ (kept : List ℕ) where
   masked-tree-good A t G =
       let e : frag-fields (mask-frag t) ≡ mask-fields (frag-fields t) = frag-masked t 0 0 (G .good) in
       record {
-        short = subst (λ (i : Fields ℕ). length (encode-fields i) ≤ 60_000) (sym e) (rw (masked-length (frag-fields t)) (G .short));
+        short = subst (λ (i : Fields ℕ). length (encode-fields i) ≤ most-bytes) (sym e) (rw (masked-length (frag-fields t)) (G .short));
         good = subst (λ (i : Fields ℕ). Good in-fragment 0 0 i) (sym e) (masked-good A (frag-fields t) in-fragment 0 0 (G .good));
       }
 

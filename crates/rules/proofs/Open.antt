@@ -6,7 +6,7 @@ use Rattle.rules.specs.Bytes.{ascii, join, has, number-from, number, cap
 use Rattle.rules.specs.Digits.{digits-in, digits, signed-digits, signed, hex-digit, hex, last-digits, fraction, sign, decimal-text}
 use Rattle.rules.specs.Utf8.{following, utf8-after, utf8}
 use Rattle.rules.specs.Result.{_>>=_, _>>_, need, sound}
-use Rattle.rules.specs.Walk.{holds, allowed, right-length, is-block, right-opacity, right-size, content, complete, tags, front, valued, walk, check}
+use Rattle.rules.specs.Walk.{holds, allowed, right-length, is-block, right-opacity, right-size, text-content, anchor-content, content, complete, tags, front, valued, walk, check}
 use Rattle.rules.specs.Tree.{bytes-of, fields-of, or-empty, map-fields, signed-byte, styles-of, run-of, runs-of, anchor-of, frag-of, read}
 use Rattle.rules.specs.Encode.{field, encode-fields, run-fields, runs-fields, anchor-tag, leaf-fields, block-tag, frag-fields, encode}
 use Rattle.rules.specs.Layout.{or-script, effective, not-negative, byte-width, styled-width, width, _⊕_, last, parts-shape, only-if-block, room, kept-inline, chosen, rigid-block, before, leaf-flexible, block-flexible, in-turn, nothing-yet, and-node, at-end, parts, rigid-text, rigid-runs, rigid, fragment-layout, layout}
@@ -23,7 +23,7 @@ unfoldable pub all-open : ℕ
 unfolding
     trailingZeros size span climb units odd round toBits
     ascii join has number-from number cap newline digits-in digits signed-digits signed hex-digit hex last-digits fraction sign decimal-text following utf8-after utf8
-    _>>=_ _>>_ need sound holds allowed right-length is-block right-opacity right-size content complete tags front valued walk check
+    _>>=_ _>>_ need sound holds allowed right-length is-block right-opacity right-size text-content anchor-content content complete tags front valued walk check
     bytes-of fields-of or-empty map-fields signed-byte styles-of run-of runs-of anchor-of frag-of read
     field encode-fields run-fields runs-fields anchor-tag leaf-fields block-tag frag-fields encode
     or-script effective not-negative byte-width styled-width width _⊕_ last parts-shape only-if-block room kept-inline chosen rigid-block

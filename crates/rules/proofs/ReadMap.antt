@@ -1,4 +1,4 @@
--- Naturality of reading: the tree of a mapped file is the mapped tree, and a refusal stays what it is.
+-- Naturality of reading, for any content: the tree of a mapped file is the mapped tree, and a refusal stays what it is.
 use mathlib.Core.Path.{_≡_, refl, _∙_, ap, ap₂}
 use mathlib.Core.List.{List, [], _∷_, map}
 use mathlib.Core.Option.{Option, none, some, Option·map}
@@ -8,7 +8,7 @@ use lib.Dec.{eqb}
 use lib.ListN.{length, length-map}
 use Rattle.rules.specs.Bytes.{if_then_else_, has}
 use Rattle.rules.specs.Result.{Result, refused, accepted, _>>=_, _>>_}
-use Rattle.rules.specs.Walk.{Fields, end, bytes, inside, Holder, in-fragment, Field, Value, of-bytes, of-fields, put, front, valued, walk, check, tags, holds}
+use Rattle.rules.specs.Walk.{Fields, end, bytes, inside, Holder, in-fragment, Field, Value, of-bytes, of-fields, put, Content, front, valued, walk, check, tags, holds}
 use Rattle.rules.specs.Tree.{map-fields, text, space, force, if-block, Kind, Frag, leaf, block, Frags, frag, bytes-of, fields-of, or-empty, run-of, runs-of, anchor-of, frag-of, frags-of, read}
 use Rattle.rules.specs.Good.{depth-in}
 use Rattle.rules.proofs.Maps.{map-run, map-leaf, map-frag, map-frags}
@@ -33,7 +33,7 @@ unfolding _>>_
 then-map g (refused n p) k k′ h = refl
 then-map g (accepted a) k k′ h = h
 
-module _ {X Y : Type 0} (f : X → Y) (byte : Y → ℕ) where
+module _ (asked : Content) {X Y : Type 0} (f : X → Y) (byte : Y → ℕ) where
   -- what stands for a byte before the change
   abbrev old-byte : X → ℕ
   old-byte x = byte (f x)
@@ -61,7 +61,7 @@ module _ {X Y : Type 0} (f : X → Y) (byte : Y → ℕ) where
   tags-map (inside t i r) = ap (t ∷_) (tags-map r)
 
   valued-map : (o : Option Holder) (t p : ℕ) (v : List X) (sub : Holder → Result (Fields X)) (sub′ : Holder → Result (Fields Y))
-      → ((h : Holder) → sub′ h ≡ map-result (map-fields f) (sub h)) → valued byte o t p (map f v) sub′ ≡ map-result map-value (valued old-byte o t p v sub)
+      → ((h : Holder) → sub′ h ≡ map-result (map-fields f) (sub h)) → valued asked byte o t p (map f v) sub′ ≡ map-result map-value (valued asked old-byte o t p v sub)
   unfolding valued
   valued-map none t p v sub sub′ h = simp map-map (then-map map-value _ _ _ refl)
   valued-map (some w) t p v sub sub′ h =
@@ -73,7 +73,7 @@ module _ {X Y : Type 0} (f : X → Y) (byte : Y → ℕ) where
   put-map t (of-fields i) r = refl
 
   walk-map : (k : ℕ) (h : Holder) (d before p : ℕ) (s : List X)
-      → walk byte k h d before p (map f s) ≡ map-result (map-fields f) (walk old-byte k h d before p s)
+      → walk asked byte k h d before p (map f s) ≡ map-result (map-fields f) (walk asked old-byte k h d before p s)
   unfolding walk
   walk-map zero h d before p s = unfold map-fields in refl
   walk-map (suc k) h d before p [] = unfold map-fields in refl
@@ -154,7 +154,7 @@ module _ {X Y : Type 0} (f : X → Y) (byte : Y → ℕ) where
     frags-of-map (inside t i r) = ap₂ frag (frag-of-map i) (frags-of-map r)
 
   -- THE TREE OF A MAPPED FILE
-  pub read-map : (s : List X) → read byte (map f s) ≡ map-result (map-frag f) (read old-byte s)
+  pub read-map : (s : List X) → read asked byte (map f s) ≡ map-result (map-frag f) (read asked old-byte s)
   unfolding read check
   read-map s =
       bind-map (map-fields f) (map-frag f) _ _ _ _

@@ -8,6 +8,7 @@ use native.Mathlib.Omega.{arith}
 use lib.Dec.{leb}
 use lib.ListN.{length}
 use borrow.Author.Tests.{leb-true, leb-false}
+use Rattle.rules.specs.Limits.{most-tenths}
 use Rattle.rules.specs.Bytes.{if_then_else_, cap}
 use Rattle.rules.specs.Walk.{Fields}
 use Rattle.rules.specs.Tree.{Run, Leaf, text, anchor, space, force, if-block, Kind, indented, flexible, Frag, stop, leaf, block, Frags, none-left, frag}
@@ -20,13 +21,13 @@ abbrev Settled : Shape → Type 0
 Settled s = s ⊕ Inline 0 0 ≡ s
 
 -- a cap is a minimum, which omega reads
-pub cap-min : (n : ℕ) → cap n ≡ min n 65_535
+pub cap-min : (n : ℕ) → cap n ≡ min n most-tenths
 unfolding cap
-cap-min n = go (leb n 65_535) refl
+cap-min n = go (leb n most-tenths) refl
   where
-    go : (b : Bool) → leb n 65_535 ≡ b → (if b then n else 65_535) ≡ min n 65_535
-    go true e = omega (arith, leb-true n 65_535 e)
-    go false e = omega (arith, leb-false n 65_535 e)
+    go : (b : Bool) → leb n most-tenths ≡ b → (if b then n else most-tenths) ≡ min n most-tenths
+    go true e = omega (arith, leb-true n most-tenths e)
+    go false e = omega (arith, leb-false n most-tenths e)
 
 capped : (n : ℕ) → cap (cap n + 0) ≡ cap n
 capped n = omega (arith, cap-min n, cap-min (cap n + 0))
@@ -46,11 +47,11 @@ settled-append s (Inline w e) S = settled-inline s w e
 settled-append (Inline w e) (Block pre post) S = settled-post S (cap (w + pre))
 settled-append (Block pre post) (Block pre′ post′) S = settled-post S pre
 
-settled-worst : {w e : ℕ} → Settled (Inline w e) → w ≤ 65_535
+settled-worst : {w e : ℕ} → Settled (Inline w e) → w ≤ most-tenths
 unfolding _⊕_
 settled-worst {w} {e} S = let least : cap (w + 0) ≡ w = cc in omega (arith, least, cap-min (w + 0))
 
-kept-settled : (fits : Bool) (candidate : ℕ) → candidate ≤ 65_535 → Settled (kept-inline fits candidate .1)
+kept-settled : (fits : Bool) (candidate : ℕ) → candidate ≤ most-tenths → Settled (kept-inline fits candidate .1)
 unfolding _⊕_ kept-inline cap
 kept-settled true candidate h = ap (λ (n : ℕ). Inline n 0) (omega (arith, cap-min (candidate + 0)))
 kept-settled false candidate h = refl

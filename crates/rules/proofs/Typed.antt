@@ -11,10 +11,10 @@ use lib.Dec.{leb, eqb}
 use lib.ListN.{length}
 use borrow.Author.Tests.{leb-true, eqb-true, ne-eqb}
 use Rattle.rules.specs.Bytes.{if_then_else_, has}
-use Rattle.rules.specs.Walk.{Fields, end, bytes, inside, Holder, in-fragment, in-block, in-text, in-anchor, complete, tags, holds, allowed, right-length}
+use Rattle.rules.specs.Walk.{Fields, end, bytes, inside, Holder, in-fragment, in-block, in-text, in-anchor, Content, content, complete, tags, holds, allowed, right-length}
 use Rattle.rules.specs.Tree.{Run, space, force, if-block, frag-of, frags-of, run-of, runs-of, anchor-of, map-fields, bytes-of, fields-of, or-empty}
 use Rattle.rules.specs.Encode.{frag-fields, frags-fields, leaf-fields, run-fields, runs-fields, anchor-tag, block-tag}
-use Rattle.rules.specs.Good.{depth-in, Good}
+use Rattle.rules.specs.Good.{depth-in, AllHold, GoodAs, Good}
 use Rattle.rules.specs.Answers.{itself}
 use Rattle.rules.proofs.Chains.{no-path}
 use Rattle.rules.proofs.Accepted.{map-itself}
@@ -38,17 +38,7 @@ bytes-not t k h e q n = let z : holds k ≡ holds t = ap holds (sym e) in no-pat
 pub fields-not : (t k : ℕ) (h : Holder) → t ≡ k → holds k ≡ none → holds t ≡ some h → ⊥
 fields-not t k h e q n = let z : holds k ≡ holds t = ap holds (sym e) in no-path (cc)
 
--- what Good says of the fields inside a t
-abbrev pub Inner : ℕ → ℕ → Fields ℕ → Type 0
-Inner t d i = (h : Holder) × (holds t ≡ some h) × (complete h (tags i) ≡ 0) × Good h (depth-in t d) 0 i
-
-pub inner-good : (t d : ℕ) (i : Fields ℕ) (h : Holder) → holds t ≡ some h → Inner t d i → Good h (depth-in t d) 0 i
-inner-good t d i h e I = in-holder (λ h. Good h (depth-in t d) 0 i) t h e (I .0) (I .1) (I .3)
-
-pub inner-complete : (t d : ℕ) (i : Fields ℕ) (h : Holder) → holds t ≡ some h → Inner t d i → complete h (tags i) ≡ 0
-inner-complete t d i h e I = in-holder (λ h. complete h (tags i) ≡ 0) t h e (I .0) (I .1) (I .2)
-
--- ---- a text
+-- ---- what a text is, and which tags it has
 
 text-tag : (before t : ℕ) → allowed in-text before t ≡ true → ((before ≡ 0) × (t ≡ 16)) ⊎ ((before ≤ 16) × (t ≡ 17))
 unfolding allowed
@@ -64,40 +54,10 @@ text-tag before t h = go _ _ _ _ refl refl refl refl h
     go false b true false p q r s h = no-path (cc)
     go false b false d p q r s h = no-path (cc)
 
--- after a 17 there is none, and after a 16 there is a 17
-after-17 : (d : ℕ) (r : Fields ℕ) → Good in-text d 17 r → r ≡ end
-after-17 d end G = refl
-after-17 d (bytes t v r) G = ⊎-elim (λ h. absurd (omega arith)) (λ h. absurd (omega arith)) (text-tag 17 t (G .0 .right-tag))
-after-17 d (inside t i r) G = ⊎-elim (λ h. absurd (omega arith)) (λ h. absurd (omega arith)) (text-tag 17 t (G .0 .right-tag))
-
-after-16 : (d : ℕ) (r : Fields ℕ) → Good in-text d 16 r → has 17 (tags r) ≡ true → (v : List ℕ) × (r ≡ bytes 17 v end)
-unfolding has tags holds
-after-16 d end G c = no-path (cc)
-after-16 d (bytes t v r) G c = ⊎-elim (λ h. absurd (omega arith)) (λ h. (v, go t (h .1) r (G .3))) (text-tag 16 t (G .0 .right-tag))
-  where
-    go : (t : ℕ) → t ≡ 17 → (r : Fields ℕ) → Good in-text d t r → bytes t v r ≡ bytes 17 v end
-    go t e r G = ap₂ (λ t r. bytes t v r) e (after-17 d r (subst (λ (t : ℕ). Good in-text d t r) e G))
-after-16 d (inside t i r) G c =
-    ⊎-elim (λ h. absurd (omega arith)) (λ h. absurd (fields-not t 17 _ (h .1) refl (G .1 .1))) (text-tag 16 t (G .0 .right-tag))
-
 -- the two forms of a text
 data TextForm : Fields ℕ → Type 0 where
   unstyled : (v : List ℕ) → TextForm (bytes 17 v end)
   styled : (j : Fields ℕ) (v : List ℕ) → TextForm (inside 16 j (bytes 17 v end))
-
-text-form : (d : ℕ) (i : Fields ℕ) → Good in-text d 0 i → has 17 (tags i) ≡ true → TextForm i
-unfolding has tags holds
-text-form d end G c = no-path (cc)
-text-form d (bytes t v r) G c = ⊎-elim (λ h. absurd (bytes-not t 16 _ (h .1) refl (G .1))) (λ h. go (h .1)) (text-tag 0 t (G .0 .right-tag))
-  where
-    go : t ≡ 17 → TextForm (bytes t v r)
-    go e = subst TextForm (sym (ap₂ (λ t r. bytes t v r) e (after-17 d r (subst (λ (t : ℕ). Good in-text d t r) e (G .3))))) (unstyled v)
-text-form d (inside t i r) G c = ⊎-elim (λ h. go (h .1)) (λ h. absurd (fields-not t 17 _ (h .1) refl (G .1 .1))) (text-tag 0 t (G .0 .right-tag))
-  where
-    go : t ≡ 16 → TextForm (inside t i r)
-    go e =
-        let (v, er) = after-16 d r (subst (λ (t : ℕ). Good in-text d t r) e (G .2)) (subst (λ (t : ℕ). has 17 (t ∷ tags r) ≡ true) e c) in
-        subst TextForm (sym (ap₂ (λ t r. inside t i r) e er)) (styled i v)
 
 abbrev pub fields-of-run : Run ℕ → Fields ℕ
 fields-of-run r = run-fields (r .style) (r .chars)
@@ -107,18 +67,7 @@ unfolding run-fields run-of bytes-of fields-of or-empty
 text-round i (unstyled v) = refl
 text-round i (styled j v) = ap (λ j. inside 16 j (bytes 17 v end)) (map-fields-itself j)
 
-has-17 : (ts : List ℕ) → complete in-text ts ≡ 0 → has 17 ts ≡ true
-unfolding complete
-has-17 ts e = go _ refl e
-  where
-    go : (b : Bool) → b ≡ has 17 ts → _≡_ {A = ℕ} (if b then 0 else 5) 0 → has 17 ts ≡ true
-    go true p h = sym p
-    go false p h = no-path (cc)
-
-text-right : (d : ℕ) (i : Fields ℕ) → Good in-text d 0 i → complete in-text (tags i) ≡ 0 → fields-of-run (run-of itself i) ≡ i
-text-right d i G c = text-round i (text-form d i G (has-17 (tags i) c))
-
--- ---- an anchor
+-- ---- the tags of an anchor and of a block
 
 run-tag : (before t : ℕ) → 0 < before → allowed in-anchor before t ≡ true → t ≡ 1
 unfolding allowed
@@ -135,42 +84,9 @@ first-tag t h = go _ _ refl refl h
     go false true p q h = inr (eqb-true _ _ (sym q))
     go false false p q h = no-path (cc)
 
--- its runs, after its first field; there is no second 18
-runs-right : (d before : ℕ) (i : Fields ℕ) → 0 < before → Good in-anchor d before i → runs-fields (runs-of itself i) ≡ i
-unfolding runs-fields runs-of holds
-runs-right d before end b G = refl
-runs-right d before (bytes t v r) b G = absurd (bytes-not t 1 in-text (run-tag before t b (G .0 .right-tag)) refl (G .1))
-runs-right d before (inside t i r) b G =
-    let e : t ≡ 1 = run-tag before t b (G .0 .right-tag) in
-    let q : holds t ≡ some in-text = ap holds e in
-    let run : fields-of-run (run-of itself i) ≡ i = text-right _ i (inner-good t d i in-text q (G .1)) (inner-complete t d i in-text q (G .1)) in
-    λ j. inside (sym e j) (run j) (runs-right d t r (omega arith) (G .2) j)
-
-no-18 : (d before : ℕ) (r : Fields ℕ) → 0 < before → Good in-anchor d before r → has 18 (tags r) ≡ false
-unfolding has tags holds
-no-18 d before end b G = refl
-no-18 d before (bytes t v r) b G = absurd (bytes-not t 1 in-text (run-tag before t b (G .0 .right-tag)) refl (G .1))
-no-18 d before (inside t i r) b G =
-    let e : t ≡ 1 = run-tag before t b (G .0 .right-tag) in
-    ap (λ (t : ℕ). eqb 18 t || has 18 (tags r)) e ∙ no-18 d t r (omega arith) (G .2)
-
-anchor-right : (d : ℕ) (i : Fields ℕ) (x y : Fields ℕ) → Good in-anchor d 0 i → complete in-anchor (tags i) ≡ 0
-    → x ≡ y → leaf-fields (anchor-of itself i) x ≡ inside 2 i y
-unfolding leaf-fields anchor-of anchor-tag complete tags has bytes-of or-empty holds runs-of
-anchor-right d end x y G c h = no-path (cc)
-anchor-right d (bytes t v r) x y G c h =
-    ⊎-elim (λ e. subst⁻¹ Right e go-18 (G .3)) (λ e. subst⁻¹ Right e go-19 (G .3)) (first-tag t (G .0 .right-tag))
-  where
-    Right : ℕ → Type 0
-    Right t = Good in-anchor d t r → leaf-fields (anchor-of itself (bytes t v r)) x ≡ inside 2 (bytes t v r) y
-
-    go-18 : Right 18
-    go-18 G = ap₂ (λ r x. inside 2 (bytes 18 v r) x) (runs-right d 18 r (omega arith) G) h
-
-    go-19 : Right 19
-    go-19 G = simp (no-18 d 19 r (omega arith) G) (ap₂ (λ r x. inside 2 (bytes 19 v r) x) (runs-right d 19 r (omega arith) G) h)
-anchor-right d (inside t i r) x y G c h =
-    ⊎-elim (λ e. absurd (fields-not t 18 _ e refl (G .1 .1))) (λ e. absurd (fields-not t 19 _ e refl (G .1 .1))) (first-tag t (G .0 .right-tag))
+block-holds : (before t : ℕ) → allowed in-block before t ≡ true → t ≡ 8
+unfolding allowed
+block-holds before t h = eqb-true t 8 h
 
 -- ---- a node, by its tag
 
@@ -210,36 +126,127 @@ node-bytes t n5 v x y l e h = ap₂ (bytes 5) (sym (no-bytes v l)) h
 node-bytes t n6 v x y l e h = ap₂ (bytes 6) (sym (no-bytes v l)) h
 node-bytes t n7 v x y l e h = ap (bytes 7 v) h
 
-node-fields : (t : ℕ) → Node t → (d : ℕ) (i r : Fields ℕ) → Inner t d i → frag-fields (frag-of itself r) ≡ r
-    → ((d : ℕ) → Good in-block d 0 i → frags-fields (frags-of itself i) ≡ i) → frag-fields (frag-of itself (inside t i r)) ≡ inside t i r
-unfolding frag-fields frag-of holds leaf-fields block-tag
-node-fields t n1 d i r I h k = ap₂ (inside 1) (text-right _ i (inner-good 1 d i in-text refl I) (inner-complete 1 d i in-text refl I)) h
-node-fields t n2 d i r I h k = anchor-right _ i _ r (inner-good 2 d i in-anchor refl I) (inner-complete 2 d i in-anchor refl I) h
-node-fields t n3 d i r I h k = ap₂ (inside 3) (k _ (inner-good 3 d i in-block refl I)) h
-node-fields t n4 d i r I h k = ap₂ (inside 4) (k _ (inner-good 4 d i in-block refl I)) h
-node-fields t n5 d i r I h k = absurd (fields-not 5 5 _ refl refl (I .1))
-node-fields t n6 d i r I h k = absurd (fields-not 6 6 _ refl refl (I .1))
-node-fields t n7 d i r I h k = absurd (fields-not 7 7 _ refl refl (I .1))
+-- ---- good fields, whatever is asked of contents
 
-block-holds : (before t : ℕ) → allowed in-block before t ≡ true → t ≡ 8
-unfolding allowed
-block-holds before t h = eqb-true t 8 h
+module _ (asked : Content) where
+  -- what Good says of the fields inside a t
+  abbrev Inner : ℕ → ℕ → Fields ℕ → Type 0
+  Inner t d i = (h : Holder) × (holds t ≡ some h) × AllHold (complete h (tags i)) × GoodAs asked h (depth-in t d) 0 i
 
--- ---- the tree of good fields has those fields
+  good-inside : (t d : ℕ) (i : Fields ℕ) (h : Holder) → holds t ≡ some h → Inner t d i → GoodAs asked h (depth-in t d) 0 i
+  good-inside t d i h e I = in-holder (λ h. GoodAs asked h (depth-in t d) 0 i) t h e (I .0) (I .1) (I .3)
 
-mutual
-  unfolding frag-fields frag-of holds
+  inside-complete : (t d : ℕ) (i : Fields ℕ) (h : Holder) → holds t ≡ some h → Inner t d i → AllHold (complete h (tags i))
+  inside-complete t d i h e I = in-holder (λ h. AllHold (complete h (tags i))) t h e (I .0) (I .1) (I .2)
 
-  pub frag-right : (i : Fields ℕ) (d before : ℕ) → Good in-fragment d before i → frag-fields (frag-of itself i) ≡ i
-  frag-right end d before G = refl
-  frag-right (bytes t v r) d before G =
-      node-bytes t (node before t (G .0 .right-tag)) v _ r (G .0 .length-right) (G .1) (frag-right r d t (G .3))
-  frag-right (inside t i r) d before G =
-      node-fields t (node before t (G .0 .right-tag)) d i r (G .1) (frag-right r d t (G .2)) (λ d g. frags-right i d 0 g)
+  -- ---- a text
 
-  pub frags-right : (i : Fields ℕ) (d before : ℕ) → Good in-block d before i → frags-fields (frags-of itself i) ≡ i
-  frags-right end d before G = refl
-  frags-right (bytes t v r) d before G = absurd (bytes-not t 8 in-fragment (block-holds before t (G .0 .right-tag)) refl (G .1))
-  frags-right (inside t i r) d before G =
-      let e : t ≡ 8 = block-holds before t (G .0 .right-tag) in
-      λ j. inside (sym e j) (frag-right i _ 0 (inner-good t d i in-fragment (ap holds e) (G .1)) j) (frags-right r d t (G .2) j)
+  -- after a 17 there is none, and after a 16 there is a 17
+  after-17 : (d : ℕ) (r : Fields ℕ) → GoodAs asked in-text d 17 r → r ≡ end
+  after-17 d end G = refl
+  after-17 d (bytes t v r) G = ⊎-elim (λ h. absurd (omega arith)) (λ h. absurd (omega arith)) (text-tag 17 t (G .0 .right-tag))
+  after-17 d (inside t i r) G = ⊎-elim (λ h. absurd (omega arith)) (λ h. absurd (omega arith)) (text-tag 17 t (G .0 .right-tag))
+
+  after-16 : (d : ℕ) (r : Fields ℕ) → GoodAs asked in-text d 16 r → has 17 (tags r) ≡ true → (v : List ℕ) × (r ≡ bytes 17 v end)
+  unfolding has tags holds
+  after-16 d end G c = no-path (cc)
+  after-16 d (bytes t v r) G c = ⊎-elim (λ h. absurd (omega arith)) (λ h. (v, go t (h .1) r (G .3))) (text-tag 16 t (G .0 .right-tag))
+    where
+      go : (t : ℕ) → t ≡ 17 → (r : Fields ℕ) → GoodAs asked in-text d t r → bytes t v r ≡ bytes 17 v end
+      go t e r G = ap₂ (λ t r. bytes t v r) e (after-17 d r (subst (λ (t : ℕ). GoodAs asked in-text d t r) e G))
+  after-16 d (inside t i r) G c =
+      ⊎-elim (λ h. absurd (omega arith)) (λ h. absurd (fields-not t 17 _ (h .1) refl (G .1 .1))) (text-tag 16 t (G .0 .right-tag))
+
+  text-form : (d : ℕ) (i : Fields ℕ) → GoodAs asked in-text d 0 i → has 17 (tags i) ≡ true → TextForm i
+  unfolding has tags holds
+  text-form d end G c = no-path (cc)
+  text-form d (bytes t v r) G c = ⊎-elim (λ h. absurd (bytes-not t 16 _ (h .1) refl (G .1))) (λ h. go (h .1)) (text-tag 0 t (G .0 .right-tag))
+    where
+      go : t ≡ 17 → TextForm (bytes t v r)
+      go e = subst TextForm (sym (ap₂ (λ t r. bytes t v r) e (after-17 d r (subst (λ (t : ℕ). GoodAs asked in-text d t r) e (G .3))))) (unstyled v)
+  text-form d (inside t i r) G c = ⊎-elim (λ h. go (h .1)) (λ h. absurd (fields-not t 17 _ (h .1) refl (G .1 .1))) (text-tag 0 t (G .0 .right-tag))
+    where
+      go : t ≡ 16 → TextForm (inside t i r)
+      go e =
+          let (v, er) = after-16 d r (subst (λ (t : ℕ). GoodAs asked in-text d t r) e (G .2)) (subst (λ (t : ℕ). has 17 (t ∷ tags r) ≡ true) e c) in
+          subst TextForm (sym (ap₂ (λ t r. inside t i r) e er)) (styled i v)
+
+  text-right : (d : ℕ) (i : Fields ℕ) → GoodAs asked in-text d 0 i → AllHold (complete in-text (tags i)) → fields-of-run (run-of itself i) ≡ i
+  unfolding complete
+  text-right d i G c = text-round i (text-form d i G (c .0))
+
+  -- ---- an anchor
+
+  -- its runs, after its first field; there is no second 18
+  runs-right : (d before : ℕ) (i : Fields ℕ) → 0 < before → GoodAs asked in-anchor d before i → runs-fields (runs-of itself i) ≡ i
+  unfolding runs-fields runs-of holds
+  runs-right d before end b G = refl
+  runs-right d before (bytes t v r) b G = absurd (bytes-not t 1 in-text (run-tag before t b (G .0 .right-tag)) refl (G .1))
+  runs-right d before (inside t i r) b G =
+      let e : t ≡ 1 = run-tag before t b (G .0 .right-tag) in
+      let q : holds t ≡ some in-text = ap holds e in
+      let run : fields-of-run (run-of itself i) ≡ i = text-right _ i (good-inside t d i in-text q (G .1)) (inside-complete t d i in-text q (G .1)) in
+      λ j. inside (sym e j) (run j) (runs-right d t r (omega arith) (G .2) j)
+
+  no-18 : (d before : ℕ) (r : Fields ℕ) → 0 < before → GoodAs asked in-anchor d before r → has 18 (tags r) ≡ false
+  unfolding has tags holds
+  no-18 d before end b G = refl
+  no-18 d before (bytes t v r) b G = absurd (bytes-not t 1 in-text (run-tag before t b (G .0 .right-tag)) refl (G .1))
+  no-18 d before (inside t i r) b G =
+      let e : t ≡ 1 = run-tag before t b (G .0 .right-tag) in
+      ap (λ (t : ℕ). eqb 18 t || has 18 (tags r)) e ∙ no-18 d t r (omega arith) (G .2)
+
+  anchor-right : (d : ℕ) (i : Fields ℕ) (x y : Fields ℕ) → GoodAs asked in-anchor d 0 i → AllHold (complete in-anchor (tags i))
+      → x ≡ y → leaf-fields (anchor-of itself i) x ≡ inside 2 i y
+  unfolding leaf-fields anchor-of anchor-tag complete tags has bytes-of or-empty holds runs-of
+  anchor-right d end x y G c h = no-path (cc)
+  anchor-right d (bytes t v r) x y G c h =
+      ⊎-elim (λ e. subst⁻¹ Right e go-18 (G .3)) (λ e. subst⁻¹ Right e go-19 (G .3)) (first-tag t (G .0 .right-tag))
+    where
+      Right : ℕ → Type 0
+      Right t = GoodAs asked in-anchor d t r → leaf-fields (anchor-of itself (bytes t v r)) x ≡ inside 2 (bytes t v r) y
+
+      go-18 : Right 18
+      go-18 G = ap₂ (λ r x. inside 2 (bytes 18 v r) x) (runs-right d 18 r (omega arith) G) h
+
+      go-19 : Right 19
+      go-19 G = simp (no-18 d 19 r (omega arith) G) (ap₂ (λ r x. inside 2 (bytes 19 v r) x) (runs-right d 19 r (omega arith) G) h)
+  anchor-right d (inside t i r) x y G c h =
+      ⊎-elim (λ e. absurd (fields-not t 18 _ e refl (G .1 .1))) (λ e. absurd (fields-not t 19 _ e refl (G .1 .1))) (first-tag t (G .0 .right-tag))
+
+  -- ---- a node
+
+  node-fields : (t : ℕ) → Node t → (d : ℕ) (i r : Fields ℕ) → Inner t d i → frag-fields (frag-of itself r) ≡ r
+      → ((d : ℕ) → GoodAs asked in-block d 0 i → frags-fields (frags-of itself i) ≡ i) → frag-fields (frag-of itself (inside t i r)) ≡ inside t i r
+  unfolding frag-fields frag-of holds leaf-fields block-tag
+  node-fields t n1 d i r I h k = ap₂ (inside 1) (text-right _ i (good-inside 1 d i in-text refl I) (inside-complete 1 d i in-text refl I)) h
+  node-fields t n2 d i r I h k = anchor-right _ i _ r (good-inside 2 d i in-anchor refl I) (inside-complete 2 d i in-anchor refl I) h
+  node-fields t n3 d i r I h k = ap₂ (inside 3) (k _ (good-inside 3 d i in-block refl I)) h
+  node-fields t n4 d i r I h k = ap₂ (inside 4) (k _ (good-inside 4 d i in-block refl I)) h
+  node-fields t n5 d i r I h k = absurd (fields-not 5 5 _ refl refl (I .1))
+  node-fields t n6 d i r I h k = absurd (fields-not 6 6 _ refl refl (I .1))
+  node-fields t n7 d i r I h k = absurd (fields-not 7 7 _ refl refl (I .1))
+
+  -- ---- the tree of good fields has those fields
+
+  mutual
+    unfolding frag-fields frag-of holds
+
+    pub frag-right : (i : Fields ℕ) (d before : ℕ) → GoodAs asked in-fragment d before i → frag-fields (frag-of itself i) ≡ i
+    frag-right end d before G = refl
+    frag-right (bytes t v r) d before G =
+        node-bytes t (node before t (G .0 .right-tag)) v _ r (G .0 .length-right) (G .1) (frag-right r d t (G .3))
+    frag-right (inside t i r) d before G =
+        node-fields t (node before t (G .0 .right-tag)) d i r (G .1) (frag-right r d t (G .2)) (λ d g. frags-right i d 0 g)
+
+    pub frags-right : (i : Fields ℕ) (d before : ℕ) → GoodAs asked in-block d before i → frags-fields (frags-of itself i) ≡ i
+    frags-right end d before G = refl
+    frags-right (bytes t v r) d before G = absurd (bytes-not t 8 in-fragment (block-holds before t (G .0 .right-tag)) refl (G .1))
+    frags-right (inside t i r) d before G =
+        let e : t ≡ 8 = block-holds before t (G .0 .right-tag) in
+        λ j. inside (sym e j) (frag-right i _ 0 (good-inside t d i in-fragment (ap holds e) (G .1)) j) (frags-right r d t (G .2) j)
+
+-- ---- by document 01's content
+
+pub inner-good : (t d : ℕ) (i : Fields ℕ) (h : Holder) → holds t ≡ some h → Inner content t d i → Good h (depth-in t d) 0 i
+inner-good = good-inside content

@@ -2,6 +2,7 @@
 -- shows that it is the layout of `Layout`, on every fragment.
 use mathlib.Core.Bool.{Bool}
 use Prim.Native.Nat.{ℕ, _-_, max}
+use Rattle.rules.specs.Limits.{indentation}
 use Rattle.rules.specs.Tree.{Kind, indented, flexible, Frag, stop, leaf, block, Frags, none-left, frag}
 use Rattle.rules.specs.Layout.{Shape, Inline, Block, _⊕_, room, chosen, rigid}
 
@@ -32,11 +33,11 @@ module _ {X : Type 0} (newline : X → Bool) where
         let r′ : Frag X × Shape = lay r i b (past (rigid newline n) so-far r) in
         (leaf n (r′ .0), r′ .1)
     lay (block indented fs r) i b so-far =
-        let fs′ : Frags X × Shape = lay-all fs (b - 20) (b - 20) (Inline 0 0) in
+        let fs′ : Frags X × Shape = lay-all fs (b - indentation) (b - indentation) (Inline 0 0) in
         let r′ : Frag X × Shape = lay r i b (past (Block 0 0) (so-far ⊕ Block 0 0) r) in
         (block indented (fs′ .0) (r′ .0), r′ .1)
     lay (block flexible fs r) i b so-far =
-        let fs′ : Frags X × Shape = lay-all fs (max (room i b so-far) (b - 20)) (b - 20) (Inline 0 0) in
+        let fs′ : Frags X × Shape = lay-all fs (max (room i b so-far) (b - indentation)) (b - indentation) (Inline 0 0) in
         let c : Kind × Shape = chosen (room i b so-far) (fs′ .1) in
         let r′ : Frag X × Shape = lay r i b (so-far ⊕ (c .1)) in
         (block (c .0) (fs′ .0) (r′ .0), r′ .1)

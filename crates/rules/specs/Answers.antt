@@ -4,8 +4,10 @@ use mathlib.Core.Bool.{Bool, true, false}
 use Prim.Native.Nat.{ℕ, suc, _+_, _*_}
 use lib.Dec.{leb, eqb}
 use lib.ListN.{length, drop}
+use Rattle.rules.specs.Limits.{most-bytes, most-columns}
 use Rattle.rules.specs.Bytes.{if_then_else_, newline}
 use Rattle.rules.specs.Result.{Result, refused, accepted, _>>=_, _>>_, need}
+use Rattle.rules.specs.Walk.{content}
 use Rattle.rules.specs.Tree.{Frag, read}
 use Rattle.rules.specs.Encode.{encode}
 use Rattle.rules.specs.Layout.{layout}
@@ -16,8 +18,9 @@ use Rattle.rules.specs.Html.{escape, body, document}
 abbrev pub itself : ℕ → ℕ
 itself b = b
 
+-- a file's tree, by document 01's content
 unfoldable pub tree : List ℕ → Result (Frag ℕ)
-tree s = read itself s
+tree s = read content itself s
 
 -- ---- the file check: nothing is counted, nothing is lent
 
@@ -30,8 +33,8 @@ check-answer s = do
 
 unfoldable pub laid-out : (w : ℕ) → List ℕ → Result (Frag ℕ)
 laid-out w s = do
-  need (leb (length s) 60_000) 1 0
-  need (leb w 6_553) 2 0
+  need (leb (length s) most-bytes) 1 0
+  need (leb w most-columns) 2 0
   t ← tree s
   accepted (layout newline w t)
 

@@ -5,6 +5,7 @@ use Prim.Native.Nat.{ℕ, _+_, _*_}
 use Prim.Native.Char.{code}
 use Prim.Native.String.{String, [] as []ˢ, _∷_ as _∷ˢ_}
 use lib.Dec.{leb, eqb}
+use Rattle.rules.specs.Limits.{most-tenths}
 
 -- a choice by a test
 infix 20 if_then_else_
@@ -39,9 +40,9 @@ number-from n (b ∷ s) = number-from (256 * n + b) s
 unfoldable pub number : List ℕ → ℕ
 number s = number-from 0 s
 
--- sums stop at 65,535
+-- widths, and sums of them, stop there
 unfoldable pub cap : ℕ → ℕ
-cap n = if leb n 65_535 then n else 65_535
+cap n = if leb n most-tenths then n else most-tenths
 
 -- the byte of a newline
 unfoldable pub newline : ℕ → Bool

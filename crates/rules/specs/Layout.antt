@@ -6,6 +6,7 @@ use Prim.Native.Nat.{ℕ, _+_, _*_, _-_, max}
 use lib.Dec.{leb}
 use lib.ListN.{length}
 use lib.IntN.{ℤ, pos, negsuc, _+ℤ_}
+use Rattle.rules.specs.Limits.{indentation}
 use Rattle.rules.specs.Bytes.{if_then_else_, cap}
 use Rattle.rules.specs.Walk.{Fields}
 use Rattle.rules.specs.Tree.{Styles, styles-of, Run, Leaf, text, anchor, space, force, if-block, Kind, indented, flexible, Frag, stop, leaf, block, Frags, none-left, frag}
@@ -120,11 +121,11 @@ module _ {X : Type 0} where
   unfoldable pub leaf-flexible : Leaf X → Flexible X
   leaf-flexible n i b = (a-leaf n, Inline 0 0)
 
-  -- a block, whose fragments are laid out by `inside`. With B block less 20: a tag 3 lays out each at (B, B), a tag 4 at (larger of inline and B, B)
+  -- a block, whose fragments are laid out by `inside`. With B block less the indentation: a tag 3 lays out each at (B, B), a tag 4 at (larger of inline and B, B)
   unfoldable pub block-flexible : Kind → (inside : (i b : ℕ) → Frags X × Shape) → Flexible X
-  block-flexible indented inside i b = (a-block indented (inside (b - 20) (b - 20) .0), Block 0 0)
+  block-flexible indented inside i b = (a-block indented (inside (b - indentation) (b - indentation) .0), Block 0 0)
   block-flexible flexible inside i b =
-      let fs : Frags X × Shape = inside (max i (b - 20)) (b - 20) in
+      let fs : Frags X × Shape = inside (max i (b - indentation)) (b - indentation) in
       let c : Kind × Shape = chosen i (fs .1) in
       (a-block (c .0) (fs .0), c .1)
 

@@ -1,4 +1,5 @@
 -- Document 01's rules, in reading order.
+pub mod Limits
 pub mod Bytes
 pub mod Digits
 pub mod Utf8

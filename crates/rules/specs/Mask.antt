@@ -7,7 +7,7 @@ use lib.Dec.{eqb}
 use lib.ListN.{length, getD, replicate}
 use Rattle.rules.specs.Bytes.{if_then_else_, has}
 use Rattle.rules.specs.Result.{Result, refused, accepted}
-use Rattle.rules.specs.Walk.{Fields, end, bytes, inside, check}
+use Rattle.rules.specs.Walk.{Fields, end, bytes, inside, content, check}
 use Rattle.rules.specs.Answers.{itself}
 
 -- texts are the values of 17 and 7
@@ -26,7 +26,7 @@ accepted-texts (accepted i) = in-texts i
 
 -- of an accepted file
 unfoldable pub text-places : List ℕ → List Bool
-text-places s = accepted-texts (check itself s)
+text-places s = accepted-texts (check content itself s)
 
 -- ---- files that are equal but for bytes inside texts, where each kept byte stands alike
 

@@ -1,6 +1,7 @@
 -- An answer, or a refusal by document 01's number and place; and what the two types of the code say in these words.
-use Prim.Native.Nat.{ℕ, zero, suc}
+use mathlib.Core.List.{List, [], _∷_}
 use mathlib.Core.Bool.{Bool, true, false}
+use Prim.Native.Nat.{ℕ}
 use Rattle.rules.specs.declared.Refusal.{Refusal}
 use Rattle.rules.specs.declared.Refusal.the-variants.{TooLong, TooWide, Cut, WrongTag, WrongLength, TooDeep, NotUtf8, BadStyle, QuoteInAnchor, PageTooShort}
 use Rattle.rules.specs.declared.Answer.{Answer}
@@ -26,10 +27,17 @@ unfoldable pub need : Bool → ℕ → ℕ → Result (Unit {0})
 need true n p = accepted tt
 need false n p = refused n p
 
--- refusal n at p, where n is a fault's number and not 0
-unfoldable pub sound : ℕ → ℕ → Result (Unit {0})
-sound zero p = accepted tt
-sound (suc n) p = refused (suc n) p
+-- a test, and the refusal's number where it fails
+infix 70 _or-refuse_
+pub data Check : Type 0 where
+  _or-refuse_ : Bool → ℕ → Check
+
+-- a chain of needs at one place: the first test that fails answers
+unfoldable pub sound : List Check → (p : ℕ) → Result (Unit {0})
+sound [] p = accepted tt
+sound (b or-refuse n ∷ cs) p = do
+  need b n p
+  sound cs p
 
 -- what a refusal of the code says: its number, and its place
 unfoldable pub refusal : {A : Type 0} → Refusal → Result A

@@ -8,7 +8,7 @@ use lib.IntN.{ℤ}
 use Rattle.rules.specs.Bytes.{if_then_else_, has, number}
 use Rattle.rules.specs.Digits.{signed}
 use Rattle.rules.specs.Result.{Result, accepted, _>>=_}
-use Rattle.rules.specs.Walk.{Fields, end, bytes, inside, tags, check}
+use Rattle.rules.specs.Walk.{Fields, end, bytes, inside, tags, Content, check}
 
 -- what the fields of a 16 say: three bytes of colour, the opacity's float bits, signed bytes for thickness and size
 pub record Styles : Type 0 where
@@ -114,8 +114,8 @@ module _ {X : Type 0} (byte : X → ℕ) where
     frags-of (bytes t v r) = frags-of r
     frags-of (inside t i r) = frag (frag-of i) (frags-of r)
 
-  -- an accepted file's tree, or the refusal
-  unfoldable pub read : List X → Result (Frag X)
-  read s = do
-    i ← check byte s
-    accepted (frag-of i)
+-- an accepted file's tree, or the refusal
+unfoldable pub read : Content → {X : Type 0} → (X → ℕ) → List X → Result (Frag X)
+read asked byte s = do
+  i ← check asked byte s
+  accepted (frag-of byte i)

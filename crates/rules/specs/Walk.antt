@@ -6,9 +6,10 @@ use mathlib.Core.Bool.{Bool, true, _&&_, _||_, not}
 use Prim.Native.Nat.{ℕ, zero, suc, _+_, _-_}
 use lib.Dec.{leb, ltb, eqb}
 use lib.ListN.{length, take, drop}
+use Rattle.rules.specs.Limits.{most-bytes, most-blocks, first-style, last-style}
 use Rattle.rules.specs.Bytes.{if_then_else_, within, has, number}
 use Rattle.rules.specs.Utf8.{utf8}
-use Rattle.rules.specs.Result.{Result, accepted, _>>=_, _>>_, need, sound}
+use Rattle.rules.specs.Result.{Result, accepted, _>>=_, _>>_, need, Check, _or-refuse_, sound}
 
 -- ---- the table of fields
 
@@ -32,7 +33,7 @@ allowed in-fragment before t = within 1 7 t
 allowed in-block before t = eqb t 8
 allowed in-text before t = (eqb before 0 && eqb t 16) || (leb before 16 && eqb t 17)
 allowed in-anchor before t = if eqb before 0 then eqb t 18 || eqb t 19 else eqb t 1
-allowed in-styles before t = within 32 38 t && ltb before t
+allowed in-styles before t = within first-style last-style t && ltb before t
 
 -- the length n is right for the tag: fixed lengths
 unfoldable pub right-length : ℕ → ℕ → Bool
@@ -47,6 +48,12 @@ right-length t n =
 unfoldable pub is-block : ℕ → Bool
 is-block t = eqb t 3 || eqb t 4
 
+-- ---- what is asked of a value, in document 01's order
+
+-- the checks of a value of bytes, by its tag. The walk is given them, so that a check that asks for more is the same walk
+abbrev pub Content : Type 0
+Content = ℕ → List ℕ → List Check
+
 -- an opacity: +0, or the bits of a float from 1/1024 to 1
 unfoldable pub right-opacity : ℕ → Bool
 right-opacity bits = eqb bits 0 || within 0x3a80_0000 0x3f80_0000 bits
@@ -55,22 +62,30 @@ right-opacity bits = eqb bits 0 || within 0x3a80_0000 0x3f80_0000 bits
 unfoldable pub right-size : ℕ → Bool
 right-size b = leb b 117 || leb 128 b
 
--- the fault in a value of bytes: a refusal's number, or 0
-unfoldable pub content : ℕ → List ℕ → ℕ
-content t v =
-    if eqb t 17 || eqb t 7 then (if utf8 v then 0 else 7) else
-    if eqb t 18 || eqb t 19 then (if utf8 v then (if has 34 v then 9 else 0) else 7) else
-    if eqb t 33 then (if right-opacity (number v) then 0 else 8) else
-    if eqb t 35 then (if right-size (number v) then 0 else 8) else
-    0
+-- a text's bytes
+unfoldable pub text-content : List ℕ → List Check
+text-content v = utf8 v or-refuse 7 ∷ []
 
--- the fault in the tags that a value has together: a refusal's number, or 0
-unfoldable pub complete : Holder → List ℕ → ℕ
-complete in-fragment tags = 0
-complete in-block tags = 0
-complete in-text tags = if has 17 tags then 0 else 5
-complete in-anchor tags = if has 18 tags || has 19 tags then 0 else 5
-complete in-styles tags = if (has 33 tags && not (has 32 tags)) || (has 36 tags && has 37 tags) then 8 else 0
+-- an anchor's: UTF-8, then no quote
+unfoldable pub anchor-content : List ℕ → List Check
+anchor-content v = utf8 v or-refuse 7 ∷ not (has 34 v) or-refuse 9 ∷ []
+
+-- document 01's content
+unfoldable pub content : Content
+content t v =
+    if eqb t 17 || eqb t 7 then text-content v else
+    if eqb t 18 || eqb t 19 then anchor-content v else
+    if eqb t 33 then right-opacity (number v) or-refuse 8 ∷ [] else
+    if eqb t 35 then right-size (number v) or-refuse 8 ∷ [] else
+    []
+
+-- the checks of the tags that a value of fields has together: a text; a name; colour where there is opacity, and not both scripts
+unfoldable pub complete : Holder → List ℕ → List Check
+complete in-fragment tags = []
+complete in-block tags = []
+complete in-text tags = has 17 tags or-refuse 5 ∷ []
+complete in-anchor tags = (has 18 tags || has 19 tags) or-refuse 5 ∷ []
+complete in-styles tags = not (has 33 tags && not (has 32 tags)) or-refuse 8 ∷ not (has 36 tags && has 37 tags) or-refuse 8 ∷ []
 
 -- ---- the walk
 
@@ -112,31 +127,33 @@ module _ {X : Type 0} (byte : X → ℕ) where
         need (allowed h before t) 4 p
         need (leb n (length s - 2)) 3 p
         need (right-length t n) 5 p
-        need (not (is-block t && leb 32 d)) 6 p
+        need (not (is-block t && leb most-blocks d)) 6 p
         accepted (record { tag = t; value = take n (drop 2 s); rest = drop n (drop 2 s) })
 
-  -- its content: sound bytes, or the fields that `read` reads, complete
+module _ (asked : Content) {X : Type 0} (byte : X → ℕ) where
+  -- its content: bytes that are as asked, or the fields that `read` reads, complete
   unfoldable pub valued : Option Holder → (t p : ℕ) → List X → (Holder → Result (Fields X)) → Result (Value X)
   valued none t p v read = do
-    sound (content t (map byte v)) p
+    sound (asked t (map byte v)) p
     accepted (of-bytes v)
   valued (some h) t p v read = do
     i ← read h
     sound (complete h (tags i)) p
     accepted (of-fields i)
 
-  -- the fields s in the holder h, inside d blocks, from the place p on, after the tag before; k bounds how many bytes there are
+  -- the fields s in the holder h, inside d blocks, from the place p on, after the tag before. k is fuel, as many fields as
+  -- there are bytes: where it is used up no byte is left, since more of it changes nothing (`Fuel.enough`)
   unfoldable pub walk : ℕ → Holder → (d before p : ℕ) → List X → Result (Fields X)
   walk zero h d before p s = accepted end
   walk (suc k) h d before p [] = accepted end
   walk (suc k) h d before p (x ∷ s) = do
-    f ← front h d before p x s
+    f ← front byte h d before p x s
     v ← valued (holds (f .tag)) (f .tag) p (f .value) (λ h′. walk k h′ (if is-block (f .tag) then suc d else d) 0 (p + 3) (f .value))
     r ← walk k h d (f .tag) (p + (3 + length (f .value))) (f .rest)
     accepted (put (f .tag) v r)
 
-  -- the file check: at most 60,000 bytes, then the walk
+  -- the file check: its length, then the walk
   unfoldable pub check : List X → Result (Fields X)
   check s = do
-    need (leb (length s) 60_000) 1 0
+    need (leb (length s) most-bytes) 1 0
     walk (length s) in-fragment 0 0 0 s

@@ -1,5 +1,25 @@
-// The rules of document 01. This crate is its specs/ (the rules) and its proofs/ (theorems about them); its code is the two types that
-// every public answer has.
+// The rules of document 01. This crate is its specs/ (the rules) and its proofs/ (theorems about them); its code is the limits, which
+// specs/Limits has by the same names, and the two types that every public answer has.
+
+// The most bytes of a file.
+pub const MOST_BYTES: usize = 60000;
+
+// The most blocks around a block.
+pub const MOST_BLOCKS: usize = 32;
+
+// The widest page, in columns.
+pub const MOST_COLUMNS: usize = 6553;
+
+// The cap of widths, in tenths of a column.
+pub const MOST_TENTHS: u16 = 65535;
+
+// What a block is indented by, in tenths of a column.
+pub const INDENTATION: u16 = 20;
+
+// The tags of a style's fields.
+pub const FIRST_STYLE: u8 = 32;
+
+pub const LAST_STYLE: u8 = 38;
 
 // Why a file, a width or a page buffer is refused: a case for each of document 01's numbers, in their order, with the place where it is not 0.
 pub enum Refusal {

@@ -1,4 +1,5 @@
 // Widths in tenths of a column, which stop at 65,535, and what a laid out piece takes up: part of a line, or several lines.
+use rules::MOST_TENTHS;
 ghost use mathlib.Core.Path.{_≡_};
 ghost use Prim.Native.Nat.{_+_, _-_};
 ghost use Rattle.rules.specs.Bytes.{cap};
@@ -15,12 +16,12 @@ const FIRST: usize = 0x1_0000;
 // The weight of the mark of several lines.
 const BLOCK: usize = 0x1_0000_0000;
 
-// A sum of widths, which stops at 65,535.
+// A sum of widths, capped.
 pub fn saturating_add(a: u16, b: u16) -> u16
     ensures { λ r. ⌜ r ≡ cap (a + b) ⌝ }
 {
-    if 65535 - a < b {
-        return 65535;
+    if MOST_TENTHS - a < b {
+        return MOST_TENTHS;
     }
     a + b
 }

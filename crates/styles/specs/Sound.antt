@@ -13,7 +13,7 @@ use Rattle.rules.specs.Result.{accepted}
 use Rattle.rules.specs.Walk.{Fields, end, bytes, inside, Holder, in-styles, allowed, holds, content, right-length, right-opacity, right-size, tags, walk}
 use Rattle.rules.specs.Tree.{Styles, bytes-of, signed-byte, styles-of}
 use Rattle.rules.specs.Encode.{field, encode-fields}
-use Rattle.rules.specs.Good.{Bytes, Good}
+use Rattle.rules.specs.Good.{Bytes, AllHold, Good}
 use Rattle.rules.specs.Answers.{itself}
 use Rattle.rules.proofs.Accepted.{walk-good}
 use Rattle.fields.specs.FieldAt.{field-at}
@@ -59,24 +59,22 @@ passed t d before (inside u i r) l G =
     passed t d u r (omega arith) (G .2)
 
 -- the value of a good field counts
-counts : (t : ℕ) (v : List ℕ) → right-length t (length v) ≡ true → content t v ≡ 0 → right-value t v ≡ true
+counts : (t : ℕ) (v : List ℕ) → right-length t (length v) ≡ true → AllHold (content t v) → right-value t v ≡ true
 unfolding right-value content
 counts t v l c = go (eqb t 33) (eqb t 35) refl refl
   where
-    sound : (b : Bool) → _≡_ {A = ℕ} (if b then 0 else 8) 0 → b ≡ true
-    sound true e = refl
-    sound false e = absurd (omega arith)
-
     go : (b d : Bool) → eqb t 33 ≡ b → eqb t 35 ≡ d
         → (if b then right-length t (length v) && right-opacity (number v) else
         if d then right-length t (length v) && right-size (number v) else
         right-length t (length v)) ≡ true
     go true d e f =
         let n : t ≡ 33 = eqb-true t 33 e in
-        rw (l, sound (right-opacity (number v)) (rw n at c))
+        let (h, _) = rw n at c in
+        rw (l, h)
     go false true e f =
         let n : t ≡ 35 = eqb-true t 35 f in
-        rw (l, sound (right-size (number v)) (rw n at c))
+        let (h, _) = rw n at c in
+        rw (l, h)
     go false false e f = l
 
 -- ---- all of them
@@ -167,8 +165,8 @@ unfolding styles-in
 good-styles j d before G = from-fields j (length (encode-fields j)) d before [] no-styles (omega arith) G ∙ over-none j
 
 -- the same, where the walk accepts the value of a 16
-pub walked-styles : (k d p : ℕ) (v : List ℕ) (i : Fields ℕ) → walk itself k in-styles d 0 p v ≡ accepted i → length v ≤ k → Bytes v
+pub walked-styles : (k d p : ℕ) (v : List ℕ) (i : Fields ℕ) → walk content itself k in-styles d 0 p v ≡ accepted i → length v ≤ k → Bytes v
     → styles-in v ≡ styles-of i
 walked-styles k d p v i e l b =
-    let (G, ev) = walk-good k in-styles d 0 p v i l b e in
+    let (G, ev) = walk-good content k in-styles d 0 p v i l b e in
     ap styles-in (sym ev) ∙ good-styles i d 0 G

@@ -10,12 +10,12 @@ use borrow.Author.Tests.{le-leb, lt-leb, ne-eqb, eq-eqb, eqb-true}
 use Rattle.rules.specs.Bytes.{has, number, number-from}
 use Rattle.rules.specs.Utf8.{utf8}
 use Rattle.rules.specs.Result.{Result, refused, accepted, _>>_, need, sound}
-use Rattle.rules.specs.Walk.{content, right-length, right-opacity, right-size}
+use Rattle.rules.specs.Walk.{text-content, anchor-content, content, right-length, right-opacity, right-size}
 use Rattle.rules.proofs.Chains.{no-path}
 use Rattle.utf8.specs.Answer.{sound-if, utf8-answer}
 use Rattle.utf8.specs.declared.Utf8.{Utf8}
 use Rattle.utf8.specs.declared.Utf8.the-variants.{Sound, Broken}
-use Rattle.verify.specs.Contents.{text-fault, anchor-fault, style-verdict}
+use Rattle.verify.specs.Contents.{style-verdict}
 
 -- ---- texts and anchors
 
@@ -36,24 +36,24 @@ module _ (v : List ℕ) (p : ℕ) {u : Utf8} (e : u ≡ utf8-answer v) where
   unfolding utf8-answer
   is-broken w = if-broken (utf8 v) (sym e ∙ w)
 
-  pub broken-text : u ≡ Broken → refused 7 p ≡ sound (text-fault v) p
-  unfolding sound text-fault
+  pub broken-text : u ≡ Broken → refused 7 p ≡ sound (text-content v) p
+  unfolding sound need _>>_ text-content
   broken-text w = simp (is-broken w)
 
-  pub sound-text : u ≡ Sound → accepted tt ≡ sound (text-fault v) p
-  unfolding sound text-fault
+  pub sound-text : u ≡ Sound → accepted tt ≡ sound (text-content v) p
+  unfolding sound need _>>_ text-content
   sound-text w = simp (is-sound w)
 
-  pub broken-anchor : u ≡ Broken → refused 7 p ≡ sound (anchor-fault v) p
-  unfolding sound anchor-fault
+  pub broken-anchor : u ≡ Broken → refused 7 p ≡ sound (anchor-content v) p
+  unfolding sound need _>>_ anchor-content
   broken-anchor w = simp (is-broken w)
 
-  pub quoted-anchor : u ≡ Sound → has 34 v ≡ true → refused 9 p ≡ sound (anchor-fault v) p
-  unfolding sound anchor-fault
+  pub quoted-anchor : u ≡ Sound → has 34 v ≡ true → refused 9 p ≡ sound (anchor-content v) p
+  unfolding sound need _>>_ anchor-content
   quoted-anchor w q = simp (is-sound w, q)
 
-  pub sound-anchor : u ≡ Sound → has 34 v ≡ false → accepted tt ≡ sound (anchor-fault v) p
-  unfolding sound anchor-fault
+  pub sound-anchor : u ≡ Sound → has 34 v ≡ false → accepted tt ≡ sound (anchor-content v) p
+  unfolding sound need _>>_ anchor-content
   sound-anchor w q = simp (is-sound w, q)
 
 -- ---- numbers
@@ -116,23 +116,23 @@ module _ (t : ℕ) (v : List ℕ) where
     by-content l e = simp l e
 
     pub opacity-sound : t ≡ 33 → right-opacity (number v) ≡ true → accepted tt ≡ sound (content t v) p
-    unfolding content sound
+    unfolding content sound need _>>_
     opacity-sound e h = rw e (simp h)
 
     pub opacity-faulty : t ≡ 33 → right-opacity (number v) ≡ false → refused 8 p ≡ sound (content t v) p
-    unfolding content sound
+    unfolding content sound need _>>_
     opacity-faulty e h = rw e (simp h)
 
     pub size-sound : t ≡ 35 → length v ≡ 1 → right-size (getD v 0 0) ≡ true → accepted tt ≡ sound (content t v) p
-    unfolding content sound
+    unfolding content sound need _>>_
     size-sound e l h = rw e (simp (← (number-of-one v l), h))
 
     pub size-faulty : t ≡ 35 → length v ≡ 1 → right-size (getD v 0 0) ≡ false → refused 8 p ≡ sound (content t v) p
-    unfolding content sound
+    unfolding content sound need _>>_
     size-faulty e l h = rw e (simp (← (number-of-one v l), h))
 
     pub no-content : 32 ≤ t → (t ≡ 33 → ⊥) → (t ≡ 35 → ⊥) → accepted tt ≡ sound (content t v) p
-    unfolding content sound
+    unfolding content sound need _>>_
     no-content l e f =
         simp (
           ne-eqb t 17 (λ (z : t ≡ 17). omega arith),

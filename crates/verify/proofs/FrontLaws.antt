@@ -136,6 +136,17 @@ module _ {s : List ℕ} {at : ℕ} {a : Bool} {p : ℕ} {r : Checked} (F : Front
       let (x, y, w) = sound-answer _ _ _ p (sym (F .is) ∙ ap checked z) in
       record { right = record { yes = sym e ∙ w }; fits = leb-true _ _ y }
 
+  module _ (z : r ≡ Sound) where
+    sound-fits : at + 3 + length-at s at ≤ length s
+    unfolding checked
+    sound-fits = let (x, y, w) = sound-answer _ _ _ p (sym (F .is) ∙ ap checked z) in leb-true _ _ y
+
+    pub sound-three : at + 3 ≤ length s
+    sound-three = omega (arith, sound-fits)
+
+    pub sound-end : {e : ℕ} → e ≡ at + 3 + length-at s at → e ≤ length s
+    sound-end q = omega (arith, sound-fits)
+
   pub header-stops : {x : Refusal} (h : Holder) (d before : ℕ) → at < length s → a ≡ allowed h before (getD s at 0) → r ≡ Faulty x → FieldSaid h d before p s at r
   unfolding field-result
   header-stops h d before l e z =

@@ -1,4 +1,5 @@
 -- Laws that the proofs cite.
+pub mod Cycles
 pub mod TagLaws
 pub mod SaidLaws
 pub mod ContentLaws
@@ -7,6 +8,7 @@ pub mod FrontLaws
 pub mod ValueLaws
 pub mod WalkLaws
 pub mod LoopLaws
+pub mod NodeLaws
 pub mod CheckLaws
 pub mod Verdicts
 pub mod Determined

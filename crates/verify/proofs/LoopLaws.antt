@@ -5,7 +5,7 @@ use Prim.Native.Nat.{ℕ, _+_, _-_, _≤_, _<_}
 use native.Mathlib.Omega.{arith}
 use lib.ListN.{length, getD, drop, take, length-take, length-drop}
 use Rattle.rules.specs.declared.Refusal.{Refusal}
-use Rattle.rules.specs.Result.{Result, _>>=_, sound}
+use Rattle.rules.specs.Result.{Result, _>>=_, Check, sound}
 use Rattle.rules.specs.Walk.{Holder, in-fragment, in-block, in-styles, Field, front, complete, allowed}
 use Rattle.fields.specs.FieldAt.{length-at}
 use Rattle.verify.specs.declared.answer.Checked.{Checked}
@@ -60,31 +60,56 @@ module _ {h : Holder} {before : ℕ} {s : List ℕ} {at e : ℕ} (P : Passed h b
   pub value-room : {place : ℕ} → Stands s at place → Room (place + 3) (take (e - (at + 3)) (drop (at + 3) s))
   value-room S = record { room = omega (arith, length-take (e - (at + 3)) (drop (at + 3) s), length-drop (at + 3) s, P .fits, S .room) }
 
--- ---- nodes and fragments: the tag before does not matter
+-- ---- nodes and fragments
 
-fragment-front : (d before before′ p : ℕ) (s : List ℕ) → front-of in-fragment d before p s ≡ front-of in-fragment d before′ p s
-unfolding front-of front allowed
-fragment-front d before before′ p [] = refl
-fragment-front d before before′ p (x ∷ s) = refl
+-- a holder whose fields ask neither which tag came before nor which there are
+pub record Free (h : Holder) : Type 0 where
+  pub after-any : (before before′ t : ℕ) → allowed h before t ≡ allowed h before′ t
+  pub any-tags : (ts : List ℕ) → complete h ts ≡ []
 
-block-front : (d before before′ p : ℕ) (s : List ℕ) → front-of in-block d before p s ≡ front-of in-block d before′ p s
-unfolding front-of front allowed
-block-front d before before′ p [] = refl
-block-front d before before′ p (x ∷ s) = refl
+pub free-nodes : Free in-fragment
+unfolding allowed complete
+free-nodes = record { after-any = λ b b′ t. refl; any-tags = λ ts. refl }
 
-module _ {d p : ℕ} {s : List ℕ} {at : ℕ} {r : Checked} (before : ℕ) where
-  pub node-after : FieldSaid in-fragment d 0 p s at r → FieldSaid in-fragment d before p s at r
-  unfolding field-result
-  node-after F = record { is = F .is ∙ ap (λ (m : Result (Field ℕ)). done (m >>= λ f. content-result (f .tag) d p (f .value))) (fragment-front d 0 before p (drop at s)) }
+pub free-pieces : Free in-block
+unfolding allowed complete
+free-pieces = record { after-any = λ b b′ t. refl; any-tags = λ ts. refl }
 
-  pub piece-after : FieldSaid in-block d 0 p s at r → FieldSaid in-block d before p s at r
-  unfolding field-result
-  piece-after F = record { is = F .is ∙ ap (λ (m : Result (Field ℕ)). done (m >>= λ f. content-result (f .tag) d p (f .value))) (block-front d 0 before p (drop at s)) }
+free-front : {h : Holder} → Free h → (d before before′ p : ℕ) (s : List ℕ) → front-of h d before p s ≡ front-of h d before′ p s
+unfolding front-of front
+free-front f d before before′ p [] = refl
+free-front f d before before′ p (x ∷ s) = rw (f .after-any before before′ x) refl
 
 -- the loop has come to `at`, after whatever tag
 pub record Reached (s : List ℕ) (h : Holder) (d base at : ℕ) : Type 0 where
   pub last : ℕ
   pub come : Come Any s h d base 0 last at
+
+pub reached-none : {s : List ℕ} {h : Holder} {d base : ℕ} → Reached s h d base 0
+reached-none = record { last = 0; come = come-first tt }
+
+module _ {s : List ℕ} {h : Holder} {d base at : ℕ} (R : Reached s h d base at) (free : Free h) where
+  pub reached-end : length s ≤ at → FieldsSaid h d base 0 s Sound
+  unfolding checked sound
+  reached-end l = come-last (R .come) l (rw (free .any-tags (R .come .so-far)) refl)
+
+  module _ (l : at < length s) {r : Checked} (F : FieldSaid h d 0 (base + at) s at r) where
+    next : FieldSaid h d (R .last) (base + at) s at r
+    unfolding field-result
+    next = record { is = F .is ∙ ap (λ (m : Result (Field ℕ)). done (m >>= λ f. content-result (f .tag) d (base + at) (f .value))) (free-front free d 0 (R .last) (base + at) (drop at s)) }
+
+    pub reached-stops : {x : Refusal} → r ≡ Faulty x → FieldsSaid h d base 0 s r
+    reached-stops z = come-stops (R .come) l next z
+
+    pub reached-three : r ≡ Sound → at + 3 ≤ length s
+    reached-three z = omega (arith, come-passes (R .come) l next z .fits)
+
+    module _ {e : ℕ} (z : r ≡ Sound) (q : e ≡ at + 3 + length-at s at) where
+      pub reached-less : length s - e < length s - at
+      reached-less = omega (arith, come-passes (R .come) l next z .fits)
+
+      pub reached-on : Reached s h d base e
+      reached-on = record { last = _; come = come-on (R .come) l next z q Any (λ ts k A. tt) }
 
 -- ---- a 16, with the record of its tags
 
@@ -102,4 +127,4 @@ module _ {s : List ℕ} {d base place : ℕ} where
         (come-on C l F z q (Sees (seen-with seen (getD s at 0))) (λ ts S A. sees-more (getD s at 0) S))
 
     pub styles-last : {r : Checked} → length s ≤ at → checked r ≡ sound (complete-seen seen) place → FieldsSaid in-styles d base place s r
-    styles-last l e = come-last C l (e ∙ ap (λ (n : ℕ). sound n place) (sees-all (C .keeps)))
+    styles-last l e = come-last C l (e ∙ ap (λ (cs : List Check). sound cs place) (sees-all (C .keeps)))

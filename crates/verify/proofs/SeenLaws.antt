@@ -5,8 +5,8 @@ use mathlib.Core.Bool.{Bool, true, false, _&&_, _||_, not}
 use Prim.Native.Nat.{ℕ}
 use lib.Dec.{eqb}
 use borrow.Author.Tests.{ne-eqb, eqb-true, eqb-false}
-use Rattle.rules.specs.Bytes.{if_then_else_, has}
-use Rattle.rules.specs.Result.{refused, accepted, sound}
+use Rattle.rules.specs.Bytes.{has}
+use Rattle.rules.specs.Result.{refused, accepted, _>>_, need, _or-refuse_, sound}
 use Rattle.rules.specs.Walk.{in-text, in-anchor, in-styles, complete}
 use Rattle.verify.specs.declared.seen.Seen.{Seen}
 use Rattle.verify.specs.Seeing.{nothing-seen, seen-with, complete-seen}
@@ -16,15 +16,15 @@ use Rattle.verify.proofs.TagLaws.{Allowed, no-second-text, later-tag, n
 
 module _ (s : Seen) (p : ℕ) where
   pub no-colour : (s .opacity && not (s .colour)) ≡ true → refused 8 p ≡ sound (complete-seen s) p
-  unfolding sound complete-seen
+  unfolding sound need _>>_ complete-seen
   no-colour e = simp e
 
   pub two-scripts : (s .opacity && not (s .colour)) ≡ false → (s .subscript && s .superscript) ≡ true → refused 8 p ≡ sound (complete-seen s) p
-  unfolding sound complete-seen
+  unfolding sound need _>>_ complete-seen
   two-scripts e f = simp (e, f)
 
   pub whole-style : (s .opacity && not (s .colour)) ≡ false → (s .subscript && s .superscript) ≡ false → accepted tt ≡ sound (complete-seen s) p
-  unfolding sound complete-seen
+  unfolding sound need _>>_ complete-seen
   whole-style e f = simp (e, f)
 
 -- ---- the tags so far
@@ -72,7 +72,7 @@ sees-more {s} t {ts} S =
 
 pub sees-all : {s : Seen} {ts : List ℕ} → Sees s ts → complete-seen s ≡ complete in-styles ts
 unfolding complete-seen complete
-sees-all S = λ i. if (S .sees-opacity i && not (S .sees-colour i)) || (S .sees-subscript i && S .sees-superscript i) then 8 else 0
+sees-all S = λ i. not (S .sees-opacity i && not (S .sees-colour i)) or-refuse 8 ∷ not (S .sees-subscript i && S .sees-superscript i) or-refuse 8 ∷ []
 
 -- in a text: a 17 was seen if the last is one, since nothing comes after it
 pub record EndsText (before : ℕ) (ts : List ℕ) : Type 0 where
@@ -89,11 +89,11 @@ text-more {before} {t} {ts} E A =
 
 module _ {before : ℕ} {ts : List ℕ} (E : EndsText before ts) (p : ℕ) where
   pub text-ends : before ≡ 17 → accepted tt ≡ sound (complete in-text ts) p
-  unfolding sound complete
+  unfolding sound need _>>_ complete
   text-ends e = simp (E .says, e)
 
   pub text-lacks : (before ≡ 17 → ⊥) → refused 5 p ≡ sound (complete in-text ts) p
-  unfolding sound complete
+  unfolding sound need _>>_ complete
   text-lacks n = simp (E .says, ne-eqb 17 before (λ (q : 17 ≡ before). n (sym q)))
 
 -- in an anchor: a name was seen unless nothing was, since it comes first
@@ -128,9 +128,9 @@ name-more {before} {t} {ts} E A =
 
 module _ {before : ℕ} {ts : List ℕ} (E : HasName before ts) (p : ℕ) where
   pub name-lacks : before ≡ 0 → refused 5 p ≡ sound (complete in-anchor ts) p
-  unfolding sound complete
+  unfolding sound need _>>_ complete
   name-lacks e = simp (E .says, e)
 
   pub name-there : (before ≡ 0 → ⊥) → accepted tt ≡ sound (complete in-anchor ts) p
-  unfolding sound complete
+  unfolding sound need _>>_ complete
   name-there n = simp (E .says, ne-eqb before 0 n)

@@ -9,14 +9,14 @@ use lib.Dec.{leb, eqb}
 use lib.ListN.{length}
 use borrow.Author.Tests.{ne-eqb, eq-eqb, eqb-true, eqb-false, le-leb, lt-leb}
 use Rattle.rules.specs.Result.{Result, refused, _>>_, need, sound}
-use Rattle.rules.specs.Walk.{Holder, in-fragment, in-block, in-text, in-anchor, in-styles, of-fields, valued, walk, holds, content, complete, tags, right-length, is-block}
+use Rattle.rules.specs.Walk.{Holder, in-fragment, in-block, in-text, in-anchor, in-styles, of-fields, valued, walk, holds, text-content, anchor-content, content, complete, tags, right-length, is-block}
 use Rattle.rules.specs.Good.{depth-in}
 use Rattle.rules.specs.Answers.{itself}
 use Rattle.rules.proofs.Accepted.{map-itself}
 use Rattle.verify.specs.declared.answer.Checked.{Checked}
 use Rattle.verify.specs.declared.answer.Checked.the-variants.{Sound}
 use Rattle.verify.specs.Said.{checked, done}
-use Rattle.verify.specs.Contents.{text-fault, anchor-fault, style-verdict}
+use Rattle.verify.specs.Contents.{style-verdict}
 use Rattle.verify.specs.Walked.{content-result, value-result, fields-result, ValueSaid, FieldsSaid, Leaf}
 use Rattle.verify.proofs.TagLaws.{Allowed, by-test, never, styles-tags, text-tag, later-tag, name-tag, block-tag, fragment-tags}
 use Rattle.verify.proofs.SaidLaws.{done-then, done-each}
@@ -44,7 +44,7 @@ module _ (d p : ℕ) (v : List ℕ) where
 
     fields-at : (t : ℕ) (h : Holder) → right-length t (length v) ≡ true → (is-block t && leb 32 d) ≡ false → holds t ≡ some h → FieldsSaid h (depth-in t d) (p + 3) p v r → ValueSaid t d p v r
     unfolding value-result need _>>_ content-result valued fields-result
-    fields-at t h l b o F = record { is = F .is ∙ rw (l, b, o) (sym (done-each (walk itself (length v) h (depth-in t d) 0 (p + 3) v) (λ i. sound (complete h (tags i)) p) of-fields)) }
+    fields-at t h l b o F = record { is = F .is ∙ rw (l, b, o) (sym (done-each (walk content itself (length v) h (depth-in t d) 0 (p + 3) v) (λ i. sound (complete h (tags i)) p) of-fields)) }
 
 -- what holds nodes or fragments asks nothing of its tags together, so that its own place does not matter
 fragment-anywhere : {d base p : ℕ} {v : List ℕ} {r : Checked} → FieldsSaid in-fragment d base 0 v r → FieldsSaid in-fragment d base p v r
@@ -94,16 +94,16 @@ module _ (d p : ℕ) (v : List ℕ) {t : ℕ} {r : Checked} where
       let n : leb 32 d ≡ true = le-leb 32 d h in
       is-a-block (λ t. ValueSaid t d p v r) t b (record { is = rw n e }) (record { is = rw n e })
 
-  pub note-value : t ≡ 7 → checked r ≡ sound (text-fault v) p → ValueSaid t d p v r
-  unfolding right-length is-block holds content text-fault
+  pub note-value : t ≡ 7 → checked r ≡ sound (text-content v) p → ValueSaid t d p v r
+  unfolding right-length is-block holds content text-content
   note-value q e = rw q (bytes-at d p v 7 refl refl refl e)
 
-  pub text-value : {before : ℕ} → Allowed in-text before t → (t ≡ 16 → ⊥) → checked r ≡ sound (text-fault v) p → ValueSaid t d p v r
-  unfolding right-length is-block holds content text-fault
+  pub text-value : {before : ℕ} → Allowed in-text before t → (t ≡ 16 → ⊥) → checked r ≡ sound (text-content v) p → ValueSaid t d p v r
+  unfolding right-length is-block holds content text-content
   text-value A n e = rw (text-tag A n) (bytes-at d p v 17 refl refl refl e)
 
-  pub name-value : {before : ℕ} → Allowed in-anchor before t → (t ≡ 1 → ⊥) → checked r ≡ sound (anchor-fault v) p → ValueSaid t d p v r
-  unfolding right-length is-block holds content anchor-fault
+  pub name-value : {before : ℕ} → Allowed in-anchor before t → (t ≡ 1 → ⊥) → checked r ≡ sound (anchor-content v) p → ValueSaid t d p v r
+  unfolding right-length is-block holds content anchor-content
   name-value {before} A n e = by-test (eqb before 0) (λ z. by-test (eqb t 18) as-18 (as-19 z)) (λ z. absurd (n (later-tag A (eqb-false before 0 z))))
     where
       as-18 : eqb t 18 ≡ true → ValueSaid t d p v r

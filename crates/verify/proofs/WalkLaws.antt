@@ -1,19 +1,18 @@
 -- The walk, one field at a time, as the loop over a value's fields takes it.
 use mathlib.Core.Path.{_≡_, refl, sym, _∙_, ap}
 use mathlib.Core.List.{List, [], _∷_, _++_, append-assoc}
-use mathlib.Core.Option.{Option, none, some}
 use Prim.Native.Nat.{ℕ, zero, suc, _+_, _≤_, _<_}
 use native.Mathlib.Nat.{le-refl, add-zero}
 use native.Mathlib.Omega.{arith}
 use lib.ListN.{length, getD, drop, drop-of-length-le}
 use lib.Seq.{drop-cons}
 use Rattle.rules.specs.declared.Refusal.{Refusal}
-use Rattle.rules.specs.Result.{Result, refused, accepted, _>>=_, _>>_, sound}
-use Rattle.rules.specs.Walk.{Holder, Fields, end, Field, Value, of-bytes, of-fields, put, front, valued, walk, holds, complete, tags}
+use Rattle.rules.specs.Result.{Result, refused, accepted, _>>=_, sound}
+use Rattle.rules.specs.Walk.{Holder, Fields, end, Field, Value, of-bytes, of-fields, put, front, content, walk, holds, complete, tags}
 use Rattle.rules.specs.Good.{depth-in}
 use Rattle.rules.specs.Answers.{itself}
 use Rattle.rules.proofs.Chains.{bind-inv}
-use Rattle.rules.proofs.Refused.{front-fits}
+use Rattle.rules.proofs.Fuel.{bind-cong, valued-cong, enough}
 use Rattle.fields.specs.FieldAt.{length-at}
 use Rattle.verify.specs.declared.answer.Checked.{Checked}
 use Rattle.verify.specs.declared.answer.Checked.the-variants.{Sound, Faulty}
@@ -23,11 +22,6 @@ use Rattle.verify.proofs.SaidLaws.{stops-chain, is-accepted, done-unit}
 use Rattle.verify.proofs.FrontLaws.{Passed, the-field, value-at, value-length, front-inv}
 
 -- ---- chains
-
-bind-cong : {A B : Type 0} (m : Result A) (f g : A → Result B) → ((a : A) → m ≡ accepted a → f a ≡ g a) → (m >>= f) ≡ (m >>= g)
-unfolding _>>=_
-bind-cong (refused n p) f g h = refl
-bind-cong (accepted a) f g h = h a refl
 
 bind-assoc : {A B C : Type 0} (m : Result A) (f : A → Result B) (g : B → Result C) → ((m >>= f) >>= g) ≡ (m >>= λ a. f a >>= g)
 unfolding _>>=_
@@ -43,32 +37,6 @@ stops-twice : {A B C : Type 0} (m : Result A) (f : A → Result B) (g : A → B 
 unfolding _>>=_
 stops-twice (refused n p) f g e z = unfold done in e
 stops-twice (accepted a) f g e z = stops-chain (f a) (g a) e z
-
--- ---- fuel: what is enough is enough
-
-valued-cong : (o : Option Holder) (t p : ℕ) (v : List ℕ) (read read′ : Holder → Result (Fields ℕ)) → ((h : Holder) → read h ≡ read′ h)
-    → valued itself o t p v read ≡ valued itself o t p v read′
-unfolding valued
-valued-cong none t p v read read′ e = refl
-valued-cong (some h) t p v read read′ e = ap (λ (r : Result (Fields ℕ)). r >>= λ i. sound (complete h (tags i)) p >> accepted (of-fields i)) (e h)
-
-enough : (k j : ℕ) (h : Holder) (d before p : ℕ) (s : List ℕ) → length s ≤ k → length s ≤ j → walk itself k h d before p s ≡ walk itself j h d before p s
-unfolding walk
-enough zero zero h d before p s a b = refl
-enough zero (suc j) h d before p [] a b = refl
-enough zero (suc j) h d before p (x ∷ s) a b = absurd (omega arith)
-enough (suc k) zero h d before p [] a b = refl
-enough (suc k) zero h d before p (x ∷ s) a b = absurd (omega arith)
-enough (suc k) (suc j) h d before p [] a b = refl
-enough (suc k) (suc j) h d before p (x ∷ s) a b =
-    bind-cong (front itself h d before p x s) _ _ λ f ef.
-    let F = front-fits itself h d before p x s f ef in
-    let v : List ℕ = f .value in
-    ap (λ (g : Result (Value ℕ)). g >>= λ w. walk itself k h d (f .tag) (p + (3 + length v)) (f .rest) >>= λ r. accepted (put (f .tag) w r))
-    (valued-cong (holds (f .tag)) (f .tag) p v _ _ (λ h′. enough k j h′ (depth-in (f .tag) d) 0 (p + 3) v (omega (arith, F .0)) (omega (arith, F .0))))
-    ∙ bind-cong (valued itself (holds (f .tag)) (f .tag) p v (λ h′. walk itself j h′ (depth-in (f .tag) d) 0 (p + 3) v)) _ _ λ w ew.
-    ap (λ (r : Result (Fields ℕ)). r >>= λ i. accepted (put (f .tag) w i))
-    (enough k j h d (f .tag) (p + (3 + length v)) (f .rest) (omega (arith, F .1)) (omega (arith, F .1)))
 
 -- ---- the tags of the fields, with one in front
 
@@ -92,7 +60,7 @@ unfolding tags
 no-more ts = append-none ts
 
 -- nothing is left
-walk-nothing : (k : ℕ) (h : Holder) (d before p : ℕ) → walk itself k h d before p [] ≡ accepted end
+walk-nothing : (k : ℕ) (h : Holder) (d before p : ℕ) → walk content itself k h d before p [] ≡ accepted end
 unfolding walk
 walk-nothing zero h d before p = refl
 walk-nothing (suc k) h d before p = refl
@@ -101,17 +69,17 @@ walk-nothing (suc k) h d before p = refl
 
 -- the walk from the field at `at` on: that field, then the others
 walk-turn : (s : List ℕ) (h : Holder) (d before p at k : ℕ) → at < length s → length s ≤ at + suc k
-    → walk itself (suc k) h d before p (drop at s)
+    → walk content itself (suc k) h d before p (drop at s)
     ≡ (front-of h d before p (drop at s) >>= λ f. content-result (f .tag) d p (f .value) >>= λ v.
-    walk itself k h d (f .tag) (p + (3 + length (f .value))) (f .rest) >>= λ r. accepted (put (f .tag) v r))
+    walk content itself k h d (f .tag) (p + (3 + length (f .value))) (f .rest) >>= λ r. accepted (put (f .tag) v r))
 unfolding walk front-of content-result
 walk-turn s h d before p at k l n =
     rw (drop-cons s at 0 l)
     (bind-cong (front itself h d before p (getD s at 0) (drop (suc at) s)) _ _ λ f ef.
     let (P, q) = front-inv s at h d before p f l (rw (drop-cons s at 0 l) ef) in
     let short : length (f .value) ≤ k = rw (sym q) (omega (arith, value-length s at (P .fits), P .fits)) in
-    ap (λ (g : Result (Value ℕ)). g >>= λ v. walk itself k h d (f .tag) (p + (3 + length (f .value))) (f .rest) >>= λ r. accepted (put (f .tag) v r))
-    (valued-cong (holds (f .tag)) (f .tag) p (f .value) _ _ (λ h′. enough k (length (f .value)) h′ (depth-in (f .tag) d) 0 (p + 3) (f .value) short (le-refl _))))
+    ap (λ (g : Result (Value ℕ)). g >>= λ v. walk content itself k h d (f .tag) (p + (3 + length (f .value))) (f .rest) >>= λ r. accepted (put (f .tag) v r))
+    (valued-cong content itself (holds (f .tag)) (f .tag) p (f .value) _ _ (λ h′. enough content itself k (length (f .value)) h′ (depth-in (f .tag) d) 0 (p + 3) (f .value) short (le-refl _))))
 
 -- ---- the loop
 
@@ -124,7 +92,7 @@ module _ (s : List ℕ) (h : Holder) (d base place : ℕ) where
   pub record Left (ts : List ℕ) (before at : ℕ) : Type 0 where
     pub fuel : ℕ
     pub fueled : length s ≤ at + fuel
-    pub same : fields-result h d base place s ≡ (walk itself fuel h d before (base + at) (drop at s) >>= Rest ts)
+    pub same : fields-result h d base place s ≡ (walk content itself fuel h d before (base + at) (drop at s) >>= Rest ts)
 
   pub begins : Left [] 0 0
   unfolding fields-result
@@ -132,7 +100,7 @@ module _ (s : List ℕ) (h : Holder) (d base place : ℕ) where
       record {
         fuel = length s;
         fueled = omega arith;
-        same = ap (λ (p : ℕ). walk itself (length s) h d 0 p s >>= Rest []) (sym (add-zero base));
+        same = ap (λ (p : ℕ). walk content itself (length s) h d 0 p s >>= Rest []) (sym (add-zero base));
       }
 
 module _ {s : List ℕ} {h : Holder} {d base place : ℕ} {ts : List ℕ} {before at : ℕ} (L : Left s h d base place ts before at) where
@@ -140,7 +108,7 @@ module _ {s : List ℕ} {h : Holder} {d base place : ℕ} {ts : List ℕ} {befor
   pub finishes : length s ≤ at → fields-result h d base place s ≡ sound (complete h ts) place
   finishes l =
       L .same
-      ∙ ap (λ (u : List ℕ). walk itself (L .fuel) h d before (base + at) u >>= Rest s h d base place ts) (drop-of-length-le s l)
+      ∙ ap (λ (u : List ℕ). walk content itself (L .fuel) h d before (base + at) u >>= Rest s h d base place ts) (drop-of-length-le s l)
       ∙ accepted-first (Rest s h d base place ts) (walk-nothing (L .fuel) h d before (base + at))
       ∙ ap (λ (us : List ℕ). sound (complete h us) place) (no-more ts)
 
@@ -150,7 +118,7 @@ module _ {s : List ℕ} {h : Holder} {d base place : ℕ} {ts : List ℕ} {befor
     unfolding field-result
     stops z = record { is = by (L .fuel) (L .fueled) ∙ sym (L .same) }
       where
-        by : (k : ℕ) → length s ≤ at + k → checked r ≡ (walk itself k h d before (base + at) (drop at s) >>= Rest s h d base place ts)
+        by : (k : ℕ) → length s ≤ at + k → checked r ≡ (walk content itself k h d before (base + at) (drop at s) >>= Rest s h d base place ts)
         by zero n = absurd (omega arith)
         by (suc k) n = stops-chain _ _ (stops-twice (front-of h d before (base + at) (drop at s)) _ _ (F .is) z ∙ sym (ap done (walk-turn s h d before (base + at) at k l n))) z ∙ done-unit _
 
@@ -176,12 +144,12 @@ module _ {s : List ℕ} {h : Holder} {d base place : ℕ} {ts : List ℕ} {befor
         e = at + 3 + length-at s at
 
         next : (k : ℕ) (g : Value ℕ) (f : Field ℕ) → the-field s at ≡ f → length (value-at s at) ≡ length-at s at
-            → (walk itself k h d (f .tag) (base + at + (3 + length (f .value))) (f .rest) >>= λ r. accepted (put (f .tag) g r)) ≡ (walk itself k h d t (base + e) (drop e s) >>= λ r. accepted (put t g r))
+            → (walk content itself k h d (f .tag) (base + at + (3 + length (f .value))) (f .rest) >>= λ r. accepted (put (f .tag) g r)) ≡ (walk content itself k h d t (base + e) (drop e s) >>= λ r. accepted (put t g r))
         next k g f q n =
             let p : base + at + (3 + length-at s at) ≡ base + e = omega arith in
             rw (sym q, n, p)
 
-        by : (k : ℕ) → length s ≤ at + k → fields-result h d base place s ≡ (walk itself k h d before (base + at) (drop at s) >>= Rest s h d base place ts)
+        by : (k : ℕ) → length s ≤ at + k → fields-result h d base place s ≡ (walk content itself k h d before (base + at) (drop at s) >>= Rest s h d base place ts)
             → Left s h d base place (ts ++ (t ∷ [])) t e
         by zero n q = absurd (omega arith)
         by (suc k) n q =
@@ -194,6 +162,6 @@ module _ {s : List ℕ} {h : Holder} {d base place : ℕ} {ts : List ℕ} {befor
                   q
                   ∙ ap (λ (m : Result (Fields ℕ)). m >>= Rest s h d base place ts)
                   (walk-turn s h d before (base + at) at k l n ∙ accepted-first _ ef ∙ accepted-first _ ev ∙ next k g f same (value-length s at (P .fits)))
-                  ∙ bind-assoc (walk itself k h d t (base + e) (drop e s)) (λ r. accepted (put t g r)) (Rest s h d base place ts)
-                  ∙ bind-cong (walk itself k h d t (base + e) (drop e s)) _ _ (λ i ei. one-more h place ts t g i);
+                  ∙ bind-assoc (walk content itself k h d t (base + e) (drop e s)) (λ r. accepted (put t g r)) (Rest s h d base place ts)
+                  ∙ bind-cong (walk content itself k h d t (base + e) (drop e s)) _ _ (λ i ei. one-more h place ts t g i);
             }

@@ -1,8 +1,9 @@
--- The tags that were seen in a 16, in the code's record of them, and what is wrong by it.
+-- The tags that were seen in a 16, in the code's record of them, and what is asked of it.
+use mathlib.Core.List.{List, [], _∷_}
 use mathlib.Core.Bool.{false, _&&_, _||_, not}
 use Prim.Native.Nat.{ℕ}
 use lib.Dec.{eqb}
-use Rattle.rules.specs.Bytes.{if_then_else_}
+use Rattle.rules.specs.Result.{Check, _or-refuse_}
 use Rattle.verify.specs.declared.seen.Seen.{Seen}
 
 unfoldable pub nothing-seen : Seen
@@ -17,5 +18,5 @@ seen-with s t = record {
   superscript = s .superscript || eqb 37 t;
 }
 
-unfoldable pub complete-seen : Seen → ℕ
-complete-seen s = if (s .opacity && not (s .colour)) || (s .subscript && s .superscript) then 8 else 0
+unfoldable pub complete-seen : Seen → List Check
+complete-seen s = not (s .opacity && not (s .colour)) or-refuse 8 ∷ not (s .subscript && s .superscript) or-refuse 8 ∷ []

@@ -5,8 +5,9 @@ use mathlib.Core.Bool.{true, false, _&&_, not}
 use Prim.Native.Nat.{ℕ, _+_, _<_, _^_}
 use lib.Dec.{leb}
 use lib.ListN.{length, drop}
+use Rattle.rules.specs.Limits.{most-blocks}
 use Rattle.rules.specs.Result.{Result, refused, _>>=_, _>>_, need, sound}
-use Rattle.rules.specs.Walk.{Holder, in-fragment, Field, Value, front, valued, walk, holds, complete, tags, allowed, right-length, is-block}
+use Rattle.rules.specs.Walk.{Holder, in-fragment, Field, Value, front, content, valued, walk, holds, complete, tags, allowed, right-length, is-block}
 use Rattle.rules.specs.Good.{depth-in}
 use Rattle.rules.specs.Answers.{itself}
 use Rattle.verify.specs.declared.answer.Checked.{Checked}
@@ -14,11 +15,11 @@ use Rattle.verify.specs.Said.{checked, done}
 
 -- the content of a field of the tag t at the place p, inside d blocks
 unfoldable pub content-result : (t d p : ℕ) → List ℕ → Result (Value ℕ)
-content-result t d p v = valued itself (holds t) t p v (λ h. walk itself (length v) h (depth-in t d) 0 (p + 3) v)
+content-result t d p v = valued content itself (holds t) t p v (λ h. walk content itself (length v) h (depth-in t d) 0 (p + 3) v)
 
 -- its fixed length and its depth, then its content
 unfoldable pub value-result : (t d p : ℕ) → List ℕ → Result (Value ℕ)
-value-result t d p v = need (right-length t (length v)) 5 p >> (need (not (is-block t && leb 32 d)) 6 p >> content-result t d p v)
+value-result t d p v = need (right-length t (length v)) 5 p >> (need (not (is-block t && leb most-blocks d)) 6 p >> content-result t d p v)
 
 -- the rules' field at the front of some bytes; where none is left there is no header
 unfoldable pub front-of : Holder → (d before p : ℕ) → List ℕ → Result (Field ℕ)
@@ -31,7 +32,7 @@ field-result h d before p s = front-of h d before p s >>= λ f. content-result (
 
 -- the fields s of the holder h, inside d blocks; they stand at `base`, and the field that holds them at `place`
 unfoldable pub fields-result : Holder → (d base place : ℕ) → List ℕ → Result (Unit {0})
-fields-result h d base place s = walk itself (length s) h d 0 base s >>= λ i. sound (complete h (tags i)) place
+fields-result h d base place s = walk content itself (length s) h d 0 base s >>= λ i. sound (complete h (tags i)) place
 
 -- ---- as checks
 

@@ -9,15 +9,16 @@ use utf8::has_quote;
 ghost use mathlib.Core.Path.{_≡_};
 ghost use Prim.Native.Nat.{_≤_};
 ghost use lib.ListN.{length};
+ghost use Rattle.rules.specs.Limits.{first-style, last-style};
 ghost use Rattle.rules.specs.Bytes.{number};
 ghost use Rattle.rules.specs.Result.{sound};
-ghost use Rattle.rules.specs.Walk.{right-opacity, right-size};
+ghost use Rattle.rules.specs.Walk.{right-opacity, right-size, text-content, anchor-content};
 ghost use Rattle.verify.specs.Said.{checked};
-ghost use Rattle.verify.specs.Contents.{text-fault, anchor-fault, style-verdict};
+ghost use Rattle.verify.specs.Contents.{style-verdict};
 
 // The bytes of a text at `place`.
 pub fn check_text(v: &[u8], place: usize) -> Checked
-    ensures { λ r. ⌜ checked r ≡ sound (text-fault (now (v .entry))) place ⌝ }
+    ensures { λ r. ⌜ checked r ≡ sound (text-content (now (v .entry))) place ⌝ }
 {
     let Utf8::Sound = check_utf8(v) else {
         return Checked::Faulty(Refusal::NotUtf8(place));
@@ -27,7 +28,7 @@ pub fn check_text(v: &[u8], place: usize) -> Checked
 
 // The bytes of an anchor. UTF-8 comes before the quote.
 pub fn check_anchor(v: &[u8], place: usize) -> Checked
-    ensures { λ r. ⌜ checked r ≡ sound (anchor-fault (now (v .entry))) place ⌝ }
+    ensures { λ r. ⌜ checked r ≡ sound (anchor-content (now (v .entry))) place ⌝ }
 {
     let Utf8::Sound = check_utf8(v) else {
         return Checked::Faulty(Refusal::NotUtf8(place));
@@ -71,7 +72,7 @@ fn right_size(b: usize) -> bool
 
 // The value of a style's field of the tag: its length, then what it says.
 pub fn check_style(v: &[u8], tag: u8, place: usize) -> Checked
-    requires { ⌜ (32 ≤ tag) × (tag ≤ 38) ⌝ }
+    requires { ⌜ (first-style ≤ tag) × (tag ≤ last-style) ⌝ }
     ensures { λ r. ⌜ checked r ≡ style-verdict tag (now (v .entry)) place ⌝ }
 {
     if !right_style_length(tag, v.len()) {

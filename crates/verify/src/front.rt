@@ -9,9 +9,6 @@ ghost use Rattle.fields.specs.FieldAt.{length-at};
 ghost use Rattle.verify.specs.Said.{checked};
 ghost use Rattle.verify.specs.Fronts.{past-answer, Fronted};
 
-// The blocks that may stand inside each other.
-pub const MAX_DEPTH: usize = 32;
-
 // Where the field at `at` ends, by its length.
 pub fn field_end(s: &[u8], at: usize) -> usize
     requires { ⌜ at + 3 ≤ length (now s) ⌝ }

@@ -1,6 +1,9 @@
 // The table of fields: which tags are allowed where, and fixed lengths.
+use rules::FIRST_STYLE;
+use rules::LAST_STYLE;
 ghost use mathlib.Core.Path.{_≡_};
 ghost use Prim.Native.Nat.{_≤_};
+ghost use Rattle.rules.specs.Limits.{first-style, last-style};
 ghost use Rattle.rules.specs.Walk.{allowed, right-length, is-block, in-fragment, in-text, in-anchor, in-styles};
 
 // A block, whose depth counts.
@@ -49,14 +52,14 @@ pub fn in_anchor(before: u8, tag: u8) -> bool
     tag == 19
 }
 
-// Of a 16: 32 to 38, rising.
+// Of a 16: the style's tags, rising.
 pub fn in_styles(before: u8, tag: u8) -> bool
     ensures { λ r. ⌜ r ≡ allowed in-styles before tag ⌝ }
 {
-    if tag < 32 {
+    if tag < FIRST_STYLE {
         return false;
     }
-    if 38 < tag {
+    if LAST_STYLE < tag {
         return false;
     }
     before < tag
@@ -64,7 +67,7 @@ pub fn in_styles(before: u8, tag: u8) -> bool
 
 // The length that a style's field has.
 pub fn right_style_length(tag: u8, n: usize) -> bool
-    requires { ⌜ (32 ≤ tag) × (tag ≤ 38) ⌝ }
+    requires { ⌜ (first-style ≤ tag) × (tag ≤ last-style) ⌝ }
     ensures { λ r. ⌜ r ≡ right-length tag n ⌝ }
 {
     if tag == 32 {

@@ -1,7 +1,6 @@
 // The walk: the fields of a fragment and of a block, and the whole file.
 use crate::answer::Checked;
 use crate::content::check_text;
-use crate::front::MAX_DEPTH;
 use crate::front::check_front;
 use crate::front::field_end;
 use crate::inner::check_anchor_fields;
@@ -9,6 +8,8 @@ use crate::inner::check_text_fields;
 use crate::tables::in_fragment;
 use crate::tables::is_block;
 use rules::Answer;
+use rules::MOST_BLOCKS;
+use rules::MOST_BYTES;
 use rules::Refusal;
 ghost use mathlib.Core.Path.{_≡_};
 ghost use Prim.Native.Nat.{ℕ};
@@ -52,7 +53,7 @@ fn check_node(s: &[u8], at: usize, depth: usize, place: usize) -> Checked
     if !is_block(tag) {
         return check_leaf(v, tag, base, place);
     }
-    if MAX_DEPTH <= depth {
+    if MOST_BLOCKS <= depth {
         return Checked::Faulty(Refusal::TooDeep(place));
     }
     check_block(v, depth + 1, base)
@@ -102,14 +103,11 @@ fn check_block(s: &[u8], depth: usize, base: usize) -> Checked
     Checked::Sound
 }
 
-// The most bytes of a file.
-pub const MAX_FILE: usize = 60000;
-
 // The file check: at most so many bytes, then the walk.
 pub fn check(file: &[u8]) -> Answer
     ensures { λ r. ⌜ said r ≡ check-answer (now (file .entry)) ⌝ }
 {
-    if MAX_FILE < file.len() {
+    if MOST_BYTES < file.len() {
         return Answer::Refused(Refusal::TooLong);
     }
     let c = check_fragment(file, 0, 0);

@@ -1,0 +1,29 @@
+-- Document 01's limits, each number once. Each is an `abbrev`, so that arithmetic sees the number.
+use Prim.Native.Nat.{ℕ}
+
+-- the bytes of a file
+abbrev pub most-bytes : ℕ
+most-bytes = 60_000
+
+-- the blocks around a block
+abbrev pub most-blocks : ℕ
+most-blocks = 32
+
+-- a page's width, in columns
+abbrev pub most-columns : ℕ
+most-columns = 6_553
+
+-- the cap of widths, in tenths of a column
+abbrev pub most-tenths : ℕ
+most-tenths = 65_535
+
+-- what a block is indented by, in tenths of a column
+abbrev pub indentation : ℕ
+indentation = 20
+
+-- the tags of a style's fields
+abbrev pub first-style : ℕ
+first-style = 32
+
+abbrev pub last-style : ℕ
+last-style = 38
