@@ -26,4 +26,5 @@ pub mod Nearest
 pub mod Shortest
 pub mod EmSizes
 pub mod Printed
+pub mod Words
 pub mod Unique

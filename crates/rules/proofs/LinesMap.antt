@@ -115,7 +115,7 @@ module _ {X Y : Type 0} (f : X → Y) where
 
   step-map : (m : Machine) (o : LineOp X) → step m (map-op f o) ≡ mapped (step m o)
   unfolding step
-  step-map m (part []) = refl
+  step-map m (part []) = search item-map
   step-map m (part (x ∷ s)) = rw (copy-map s) (item-map m false (map (λ y. char (copied y)) (x ∷ s)) (λ l. has-text))
   step-map m (mark k) = item-map m false (marked k ∷ []) (λ l. l)
   step-map m (empty-anchor d a) = item-map m true (marked (open-anchor d a) ∷ marked close-anchor ∷ []) (λ l. l)

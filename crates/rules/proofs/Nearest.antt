@@ -9,7 +9,8 @@ use lib.Pow.{pow-pos}
 use lib.Arith.{digits-div, digits-mod}
 use lib.Ieee.{Format, binary32, binary64, low, hid}
 use lib.Ieee.Fits.{and-l, and-r, and-i}
-use Rattle.rules.specs.Float.{apart, magnitude, mag, infinite, Nearest, low-end, high-end, above-low, below-high, nearest}
+use Rattle.rules.specs.Float.{apart, magnitude, mag, infinite, Nearest}
+use Rattle.rules.specs.Search.{low-end, high-end, above-low, below-high, nearest}
 
 -- ---- one pattern up: the gap
 

@@ -10,7 +10,8 @@ use lib.Dec.{T}
 use lib.Pow.{pow-pos}
 use lib.Ieee.{Format, low}
 use borrow.Author.Tests.{leb-true, leb-false, ltb-true, ltb-false, le-leb, lt-ltb}
-use Rattle.rules.specs.Float.{mag, infinite, ReadsBack, off, AtMost, Shortest, nearest, floor, prefers-lower, choice, at-places, Fraction, found, from-places, shortest}
+use Rattle.rules.specs.Float.{mag, infinite, ReadsBack, off, AtMost, Shortest}
+use Rattle.rules.specs.Search.{nearest, floor, prefers-lower, choice, at-places, Fraction, found, from-places, shortest}
 use Rattle.rules.proofs.Nearest.{Within, within-of, within-test, within→nearest, nearest→within, own-low, own-high}
 
 pub ten-pos : (p : ℕ) → 0 < 10 ^ p

@@ -11,6 +11,8 @@ pub mod Layout
 pub mod Lines
 pub mod Plain
 pub mod Float
+pub mod Search
+pub mod Values
 pub mod Sizes
 pub mod Html
 pub mod Answers

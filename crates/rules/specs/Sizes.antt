@@ -7,7 +7,8 @@ use lib.Dec.{ltb}
 use lib.IntN.{ℤ, pos, negsuc}
 use lib.Ieee.{binary32, binary64, low, round, toBits}
 use Rattle.rules.specs.Digits.{Decimal, decimal-text}
-use Rattle.rules.specs.Float.{apart, mag, infinite, Nearest, Shortest, Fraction, shortest}
+use Rattle.rules.specs.Float.{apart, mag, infinite, Nearest, Shortest}
+use Rattle.rules.specs.Search.{Fraction, shortest}
 
 unfoldable pub signed-decimal : Bool → Fraction → Decimal
 signed-decimal negative x = record { negative = negative; whole = x .whole; places = x .places }
