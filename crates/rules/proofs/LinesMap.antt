@@ -9,7 +9,7 @@ use lib.ListN.{replicate}
 use Rattle.rules.specs.Bytes.{if_then_else_}
 use Rattle.rules.specs.Walk.{Fields}
 use Rattle.rules.specs.Tree.{Run, Leaf, text, anchor, space, force, if-block, indented, flexible, Frag, stop, leaf, block, Frags, none-left, frag}
-use Rattle.rules.specs.Lines.{LineOp, part, mark, empty-anchor, new-line, break, indent, unindent, Item, char, marked, open-anchor, close-anchor, copied, made, later, styled, text-ops, run-ops, runs-ops, leaf-ops, ops, indented-ops, inline-ops, Break, a-space, a-newline, Line, empty, indented-by, has-text, Machine, ignored, target, making, release, levels, spacing, item, broken, step, run, items}
+use Rattle.rules.specs.Lines.{LineOp, part, mark, empty-anchor, new-line, break, indent, unindent, Item, char, marked, open-anchor, close-anchor, copied, made, later, styled, text-ops, run-ops, runs-ops, leaf-ops, ops, indented-ops, inline-ops, Break, a-space, a-newline, Line, empty, indented-by, has-text, Machine, ignored, target, making, release, levels, spacing, item, broken, unless-empty, step, run, items}
 use Rattle.rules.proofs.Maps.{map-run, map-leaf, map-frag, map-frags, map-item, map-op}
 use Rattle.rules.proofs.Lists.{map-append}
 use Rattle.rules.proofs.LayoutMap.{old, parts-map}
@@ -113,10 +113,13 @@ module _ {X Y : Type 0} (f : X → Y) where
   broken-map true m b = refl
   broken-map false m b = refl
 
+  unless-empty-map : (s : List X) (m : Machine) (r : List (Item X) × Machine) → unless-empty (map f s) m (mapped r) ≡ mapped (unless-empty s m r)
+  unless-empty-map [] m r = refl
+  unless-empty-map (x ∷ s) m r = refl
+
   step-map : (m : Machine) (o : LineOp X) → step m (map-op f o) ≡ mapped (step m o)
   unfolding step
-  step-map m (part []) = search item-map
-  step-map m (part (x ∷ s)) = rw (copy-map s) (item-map m false (map (λ y. char (copied y)) (x ∷ s)) (λ l. has-text))
+  step-map m (part s) = simp (copy-map, item-map, unless-empty-map)
   step-map m (mark k) = item-map m false (marked k ∷ []) (λ l. l)
   step-map m (empty-anchor d a) = item-map m true (marked (open-anchor d a) ∷ marked close-anchor ∷ []) (λ l. l)
   step-map m new-line = ap (λ is. (is, record { level = m .level; line = empty; waiting = none })) (making-map (10 ∷ []))
