@@ -1,8 +1,8 @@
 -- The file check's tests of opacities and sizes are document 01's words: each passes exactly where the value is one of those that are accepted.
-use mathlib.Core.Path.{_≡_, refl, sym, ap, _∙_, subst}
+use mathlib.Core.Path.{_≡_, refl, sym, _∙_, subst}
 use mathlib.Core.Logic.{_↔_, inl, inr, ⊎-elim}
 use mathlib.Core.Bool.{Bool, true, false, _&&_, _||_, or-true, or-false, false≢true}
-use Prim.Native.Nat.{ℕ, suc, _*_, _-_, _^_, _≤_, zero-le}
+use Prim.Native.Nat.{ℕ, suc, _*_, _-_, _^_, _≤_}
 use native.Mathlib.Nat.{mul-le-mul-left}
 use native.Mathlib.Decide.{decLe}
 use native.Mathlib.Omega.{arith}
