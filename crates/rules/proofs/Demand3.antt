@@ -3,7 +3,7 @@
 -- the same places. In the list a byte is made, or copied from a place of the file.
 use mathlib.Core.Path.{_≡_, refl, sym, _∙_, ap, ap₂, fun-ext, subst}
 use mathlib.Core.List.{List, [], _∷_}
-use mathlib.Core.Bool.{Bool, true, false, _||_, false≢true}
+use mathlib.Core.Bool.{Bool, true, false, _||_}
 use Prim.Native.Nat.{ℕ, zero, suc, _<_}
 use native.Mathlib.Nat.{zero-add}
 use native.Mathlib.Omega.{arith}
@@ -67,31 +67,33 @@ sees : {A : Type 0} (kept : List ℕ) (q : ℕ → A) → Sees kept q → (s : L
 unfolding mask
 sees kept q S s = fun-ext (λ p. sees-at kept q S (text-places s) s p)
 
--- a test sees through the mask if every byte that is not kept looks like the mask's x
-seen : {A : Type 0} (kept : List ℕ) (q : ℕ → A) → ((b : ℕ) → has b kept ≡ false → q 120 ≡ q b) → Sees kept q
-unfolding mask-byte
-seen kept q h b = go (has b kept) refl
-  where
-    go : (k : Bool) → has b kept ≡ k → q (if k then b else 120) ≡ q b
-    go true e = refl
-    go false e = h b e
-
-neither : (x y : Bool) → (x || y) ≡ false → (x ≡ false) × (y ≡ false)
-neither true y e = absurd (false≢true (sym e))
-neither false y e = (refl, e)
-
 pub newline-seen : Sees newlines newline
-unfolding has newline
-newline-seen = seen newlines newline (λ b e. sym (neither _ _ e .0))
+unfolding mask-byte has newline
+newline-seen b = go (eqb b 10) refl
+  where
+    go : (e : Bool) → e ≡ eqb b 10 → eqb (if e || false then b else 120) 10 ≡ eqb b 10
+    go true q = refl
+    go false q = q
 
 pub newline-seen-in-html : Sees newlines-and-escapes newline
-unfolding has newline
-newline-seen-in-html = seen newlines-and-escapes newline (λ b e. sym (neither _ _ e .0))
+unfolding mask-byte has newline
+newline-seen-in-html b = go (eqb b 10) (eqb b 38) (eqb b 60) refl
+  where
+    go : (e f g : Bool) → e ≡ eqb b 10 → eqb (if e || (f || (g || false)) then b else 120) 10 ≡ eqb b 10
+    go true f g q = refl
+    go false true g q = refl
+    go false false true q = refl
+    go false false false q = q
 
 pub escape-seen : Sees newlines-and-escapes escape
-unfolding has escape
-escape-seen = seen newlines-and-escapes escape (λ b e.
-    let f = neither (eqb b 38) (eqb b 60 || false) (neither (eqb b 10) _ e .1) in simp (f .0, neither (eqb b 60) false (f .1) .0))
+unfolding mask-byte has escape
+escape-seen b = go (eqb b 10) (eqb b 38) (eqb b 60) refl refl
+  where
+    go : (e f g : Bool) → f ≡ eqb b 38 → g ≡ eqb b 60 → escape (if e || (f || (g || false)) then b else 120) ≡ escape b
+    go true f g x y = refl
+    go false true g x y = refl
+    go false false true x y = refl
+    go false false false x y = simp (sym x, sym y)
 
 pub newlines-ascii : Ascii newlines
 newlines-ascii = omega arith
