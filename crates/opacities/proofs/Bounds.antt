@@ -9,7 +9,8 @@ use native.Mathlib.Omega.{arith}
 use lib.Dec.{le→leb}
 use lib.Pow.{pow-pos}
 use lib.Ieee.{binary32, low}
-use Rattle.rules.specs.Float.{mag, nearest, prefers-lower, choice, at-places, Fraction, found, from-places, shortest}
+use Rattle.rules.specs.Float.{mag}
+use Rattle.rules.specs.Search.{nearest, prefers-lower, choice, at-places, Fraction, found, from-places, shortest}
 use Rattle.rules.specs.Walk.{right-opacity}
 use Rattle.rules.proofs.Nearest.{mag-mono, nearest→within, within→nearest}
 use Rattle.rules.proofs.Shortest.{ten-pos}

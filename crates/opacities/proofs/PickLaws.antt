@@ -7,7 +7,7 @@ use Prim.Native.Nat.{ℕ, suc, _+_, _-_, _*_, _/_, _^_, _≤_, _<_}
 use native.Mathlib.Nat.{mul-le-mul, mod-lt, le-of-lt, le-trans, div-le-self}
 use native.Mathlib.Omega.{arith}
 use borrow.Author.Tests.{le-leb, lt-ltb, le-ltb}
-use Rattle.rules.specs.Float.{choice}
+use Rattle.rules.specs.Search.{choice}
 use Rattle.opacities.specs.Picked.{rest, lower-reads, upper-reads, picked, Sized, Reached}
 
 -- ---- the choice

@@ -7,7 +7,8 @@ use native.Mathlib.Decide.{decLt}
 use native.Mathlib.Omega.{arith}
 use lib.Dec.{T, leb→le, le→leb, ltb→lt, lt→ltb}
 use lib.Ieee.{Format, low}
-use Rattle.rules.specs.Float.{mag, nearest, prefers-lower, choice, at-places, off, floor}
+use Rattle.rules.specs.Float.{mag, off}
+use Rattle.rules.specs.Search.{nearest, prefers-lower, choice, at-places, floor}
 use Rattle.rules.proofs.Nearest.{Within, within-of, within-test, bit}
 use Rattle.rules.proofs.Shortest.{ten-pos}
 use Rattle.opacities.specs.Picked.{lower-reads, upper-reads, lower-closer, picked}

@@ -7,7 +7,7 @@ use native.Mathlib.Nat.{pow-le-pow-right, pow-suc}
 use native.Mathlib.Decide.{decLt}
 use native.Mathlib.Omega.{arith}
 use lib.Ieee.{binary32}
-use Rattle.rules.specs.Float.{found, from-places, shortest}
+use Rattle.rules.specs.Search.{found, from-places, shortest}
 use Rattle.rules.specs.Sizes.{signed-decimal}
 use Rattle.opacities.specs.Picked.{picked, Reached}
 use Rattle.opacities.specs.Scaled.{Scaled, DecimalOf}

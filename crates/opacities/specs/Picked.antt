@@ -4,7 +4,7 @@ use mathlib.Core.Logic.{_⊎_}
 use mathlib.Core.Option.{Option, none, some}
 use Prim.Native.Nat.{ℕ, _+_, _-_, _*_, _/_, _%_, _^_, _≤_, _<_}
 use lib.Dec.{leb, ltb}
-use Rattle.rules.specs.Float.{choice}
+use Rattle.rules.specs.Search.{choice}
 use Rattle.opacities.specs.declared.Found.{Found}
 use Rattle.opacities.specs.declared.Found.the-variants.{At, Nothing}
 

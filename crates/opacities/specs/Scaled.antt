@@ -4,7 +4,8 @@ use mathlib.Core.Bool.{false}
 use Prim.Native.Nat.{ℕ, suc, _+_, _-_, _*_, _%_, _^_, _<_}
 use lib.Ieee.{Format, binary32, low}
 use Rattle.rules.specs.Digits.{Decimal}
-use Rattle.rules.specs.Float.{mag, shortest}
+use Rattle.rules.specs.Float.{mag}
+use Rattle.rules.specs.Search.{shortest}
 use Rattle.rules.specs.Sizes.{signed-decimal}
 
 -- over 2 ^ low f: what 1 / u and 2 / d of it are

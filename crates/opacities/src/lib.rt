@@ -2,7 +2,7 @@
 ghost use mathlib.Core.Path.{_≡_};
 ghost use mathlib.Core.Bool.{true, false};
 ghost use lib.Ieee.{binary32};
-ghost use Rattle.rules.specs.Float as rules;
+ghost use Rattle.rules.specs.Search as rules;
 ghost use Rattle.rules.specs.Sizes.{signed-decimal};
 ghost use Rattle.rules.specs.Walk.{right-opacity};
 ghost use Rattle.digits.specs.Said.{decimal-of};

@@ -13,7 +13,7 @@ use lib.ListN.{length, length-append}
 use borrow.Author.Tests.{eqb-true, leb-true, ltb-true, ltb-false}
 use Rattle.rules.specs.Bytes.{if_then_else_, ascii, join, number, number-from}
 use Rattle.rules.specs.Digits.{digit, digits, signed, hex, last-digits, fraction, sign, decimal-text}
-use Rattle.rules.specs.Float.{shortest}
+use Rattle.rules.specs.Search.{shortest}
 use Rattle.rules.specs.Sizes.{signed-decimal, opacity-text, em-text}
 use Rattle.rules.specs.Walk.{Fields, end, bytes, inside, in-styles, right-length, right-opacity, right-size, content}
 use Rattle.rules.specs.Tree.{Styles, bytes-of, signed-byte, styles-of}

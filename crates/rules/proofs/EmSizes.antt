@@ -10,7 +10,8 @@ use lib.Pow.{pow-pos}
 use lib.Ieee.{binary32, binary64, low}
 use lib.Ieee.Fits.{and-l, and-r}
 use Rattle.rules.specs.Digits.{Decimal}
-use Rattle.rules.specs.Float.{mag, infinite, Nearest, Shortest, nearest, shortest}
+use Rattle.rules.specs.Float.{mag, infinite, Nearest, Shortest}
+use Rattle.rules.specs.Search.{nearest, shortest}
 use Rattle.rules.specs.Sizes.{signed-decimal, one, steps, total, below-zero, Em, rounded, product-of, sum-of, em}
 use Rattle.rules.proofs.Open.{all-open}
 use Rattle.rules.proofs.Nearest.{nearest-of, nearest-unique}

@@ -1,14 +1,16 @@
 -- Document 01's checked examples hold of the rules, and refused files are refused with number and place: each one statement over a list, computed.
 use mathlib.Core.Path.{_≡_, refl}
 use mathlib.Core.List.{map}
+use Prim.Native.Nat.{ℕ, _≤_}
+use borrow.Author.Tests.{le-leb}
 use Rattle.rules.specs.Cases.{answer, examples}
 use Rattle.rules.specs.Result.{refused}
 use Rattle.rules.specs.Refusals.{answers, refusals}
 use Rattle.rules.proofs.Open.{all-open}
 
-pub examples-hold : map (λ c. answer (c .asked) (c .file)) examples ≡ map (λ c. c .right) examples
+pub examples-hold : (w : ℕ) → w ≤ 6_553 → map (λ c. answer (c .asked) (c .file)) (examples w) ≡ map (λ c. c .right) (examples w)
 unfolding all-open
-examples-hold = refl
+examples-hold w h = rw (le-leb w 6_553 h)
 
 pub refusals-hold : map (λ c. answers (c .entry) (c .file)) refusals ≡ map (λ c. refused (c .number) (c .place)) refusals
 unfolding all-open

@@ -28,4 +28,5 @@ pub mod Nearest
 pub mod Shortest
 pub mod EmSizes
 pub mod Printed
+pub mod Words
 pub mod Unique

@@ -3,15 +3,14 @@ use mathlib.Core.Path.{_≡_, refl, ap}
 use mathlib.Core.List.{List, [], _∷_, map}
 use mathlib.Core.Option.{Option, none, some}
 use mathlib.Core.Bool.{Bool, true, false}
-use Prim.Native.Nat.{ℕ, _*_, _-_}
+use Prim.Native.Nat.{ℕ}
 use lib.Dec.{ltb}
-use lib.ListN.{replicate}
 use Rattle.rules.specs.Bytes.{if_then_else_}
 use Rattle.rules.specs.Walk.{Fields}
 use Rattle.rules.specs.Tree.{Run, Leaf, text, anchor, space, force, if-block, indented, flexible, Frag, stop, leaf, block, Frags, none-left, frag}
-use Rattle.rules.specs.Lines.{LineOp, part, mark, empty-anchor, new-line, break, indent, unindent, Item, char, marked, open-anchor, close-anchor, copied, made, later, styled, text-ops, run-ops, runs-ops, leaf-ops, ops, indented-ops, inline-ops, Break, a-space, a-newline, Line, empty, indented-by, has-text, Machine, ignored, target, making, release, levels, spacing, item, broken, step, run, items}
+use Rattle.rules.specs.Lines.{LineOp, part, mark, empty-anchor, new-line, break, indent, unindent, Item, char, marked, open-anchor, close-anchor, copied, later, styled, text-ops, run-ops, runs-ops, leaf-ops, ops, indented-ops, inline-ops, Break, a-space, a-newline, Line, empty, indented-by, has-text, Machine, ignored, target, making, release, levels, spacing, item, broken, unless-empty, step, run, items}
 use Rattle.rules.proofs.Maps.{map-run, map-leaf, map-frag, map-frags, map-item, map-op}
-use Rattle.rules.proofs.Lists.{map-append}
+use Rattle.rules.proofs.Lists.{map-append, map-map}
 use Rattle.rules.proofs.LayoutMap.{old, parts-map}
 
 -- ---- line operations
@@ -76,8 +75,7 @@ module _ {X Y : Type 0} (f : X → Y) where
 
   making-map : (bs : List ℕ) → making bs ≡ map (map-item f) (making bs)
   unfolding making
-  making-map [] = refl
-  making-map (b ∷ bs) = ap (char (made b) ∷_) (making-map bs)
+  making-map bs = simp map-map
 
   release-map : (w : Option Break) (l : Line) → release w l ≡ mapped (release w l)
   unfolding release making
@@ -85,14 +83,13 @@ module _ {X Y : Type 0} (f : X → Y) where
   release-map (some a-space) l = refl
   release-map (some a-newline) l = refl
 
+  either-map : (b : Bool) (p q : List ℕ) → (if b then making p else making q) ≡ map (map-item f) (if b then making p else making q)
+  either-map true p q = making-map p
+  either-map false p q = making-map q
+
   levels-map : (k t : ℕ) → levels k t ≡ map (map-item f) (levels k t)
   unfolding levels
-  levels-map k t = go (ltb t k)
-    where
-      go : (b : Bool) → (if b then making (10 ∷ replicate (2 * t) 32) else making (replicate (2 * (t - k)) 32))
-          ≡ map (map-item f) (if b then making (10 ∷ replicate (2 * t) 32) else making (replicate (2 * (t - k)) 32))
-      go true = making-map (10 ∷ replicate (2 * t) 32)
-      go false = making-map (replicate (2 * (t - k)) 32)
+  levels-map k t = either-map (ltb t k) _ _
 
   spacing-map : (d : ℕ) (a : Bool) (l : Line) → spacing d a l ≡ mapped (spacing d a l)
   unfolding spacing
@@ -105,18 +102,20 @@ module _ {X Y : Type 0} (f : X → Y) where
   item-map m a is g = simp (release-map, spacing-map, map-append)
 
   copy-map : (s : List X) → map (λ y. char (copied y)) (map f s) ≡ map (map-item f) (map (λ y. char (copied y)) s)
-  copy-map [] = refl
-  copy-map (x ∷ s) = ap (char (copied (f x)) ∷_) (copy-map s)
+  copy-map s = simp map-map
 
   broken-map : (e : Bool) (m : Machine) (b : Break) → broken e m b ≡ mapped (broken e m b)
   unfolding broken
   broken-map true m b = refl
   broken-map false m b = refl
 
+  unless-empty-map : (s : List X) (m : Machine) (r : List (Item X) × Machine) → unless-empty (map f s) m (mapped r) ≡ mapped (unless-empty s m r)
+  unless-empty-map [] m r = refl
+  unless-empty-map (x ∷ s) m r = refl
+
   step-map : (m : Machine) (o : LineOp X) → step m (map-op f o) ≡ mapped (step m o)
   unfolding step
-  step-map m (part []) = refl
-  step-map m (part (x ∷ s)) = rw (copy-map s) (item-map m false (map (λ y. char (copied y)) (x ∷ s)) (λ l. has-text))
+  step-map m (part s) = simp (copy-map, item-map, unless-empty-map)
   step-map m (mark k) = item-map m false (marked k ∷ []) (λ l. l)
   step-map m (empty-anchor d a) = item-map m true (marked (open-anchor d a) ∷ marked close-anchor ∷ []) (λ l. l)
   step-map m new-line = ap (λ is. (is, record { level = m .level; line = empty; waiting = none })) (making-map (10 ∷ []))

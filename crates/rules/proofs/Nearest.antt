@@ -1,7 +1,7 @@
 -- Nearest patterns: magnitudes rise with the pattern, nearest is a matter of the two neighbours, and no second pattern is nearest.
-use mathlib.Core.Path.{_≡_, refl, sym, ap, _∙_, subst}
+use mathlib.Core.Path.{_≡_, refl, _∙_, subst}
 use Prim.Native.Nat.{ℕ, zero, suc, _+_, _-_, _*_, _/_, _%_, _^_, _≤_, _<_}
-use native.Mathlib.Nat.{add-suc, zero-mul, le-trans, le-refl, le-of-lt, add-zero, suc-mul, mul-assoc, mul-le-mul-right, mul-lt-mul-of-pos-right, pow-suc, div-add-mod', mod-lt, add-mul}
+use native.Mathlib.Nat.{add-suc, zero-mul, le-trans, le-refl, le-of-lt, add-zero, suc-mul, mul-le-mul-right, mul-lt-mul-of-pos-right, pow-suc, div-add-mod', mod-lt}
 use native.Mathlib.Decide.{decLt}
 use native.Mathlib.Omega.{arith}
 use lib.Dec.{T, leb→le, le→leb}
@@ -9,7 +9,8 @@ use lib.Pow.{pow-pos}
 use lib.Arith.{digits-div, digits-mod}
 use lib.Ieee.{Format, binary32, binary64, low, hid}
 use lib.Ieee.Fits.{and-l, and-r, and-i}
-use Rattle.rules.specs.Float.{apart, magnitude, mag, infinite, Nearest, low-end, high-end, above-low, below-high, nearest}
+use Rattle.rules.specs.Float.{apart, magnitude, mag, infinite, Nearest}
+use Rattle.rules.specs.Search.{low-end, high-end, above-low, below-high, nearest}
 
 -- ---- one pattern up: the gap
 
@@ -23,38 +24,24 @@ gap-pos (suc x) = pow-pos x
 
 step : (h q r : ℕ) → magnitude h q (suc r) ≡ magnitude h q r + gap q
 step h zero r = omega arith
-step h (suc x) r = ap (λ (z : ℕ). z * 2 ^ x) (omega arith) ∙ suc-mul (h + r) (2 ^ x)
+step h (suc x) r = omega arith
 
 cross : (h q r : ℕ) → suc r ≡ h → magnitude h (suc q) 0 ≡ magnitude h q r + gap q
 cross h zero r e = omega arith
-cross h (suc x) r e =
-    let a : h * 2 ^ x ≡ r * 2 ^ x + 2 ^ x = ap (λ (z : ℕ). z * 2 ^ x) (sym e) ∙ suc-mul r (2 ^ x) in
-    let b : (h + r) * 2 ^ x ≡ h * 2 ^ x + r * 2 ^ x = add-mul h r (2 ^ x) in
-    let c : (h + 0) * 2 ^ suc x ≡ (h * 2 ^ x) * 2 = ap (λ (z : ℕ). z * 2 ^ suc x) (add-zero h) ∙ ap (λ (z : ℕ). h * z) (pow-suc 2 x) ∙ sym (mul-assoc h (2 ^ x) 2) in
-    omega arith
+cross h (suc x) r e = rw (← e, pow-suc 2 x) (omega arith)
+
+at : (h q r : ℕ) → r < h → magnitude h ((q * h + r) / h) ((q * h + r) % h) ≡ magnitude h q r
+at h q r l = rw (digits-div q l, digits-mod q l)
 
 next : (h b : ℕ) → 0 < h → magnitude h (suc b / h) (suc b % h) ≡ magnitude h (b / h) (b % h) + gap (b / h)
-next h b H = elim (decLt (suc (b % h)) h) [ yes l ↦ inside l | no l ↦ over l ]
-  where
-    whole : b / h * h + b % h ≡ b
-    whole = div-add-mod' b h
-
-    inside : suc (b % h) < h → magnitude h (suc b / h) (suc b % h) ≡ magnitude h (b / h) (b % h) + gap (b / h)
-    inside l =
-        let e : suc b ≡ b / h * h + suc (b % h) = omega (arith, whole) in
-        ap (λ (z : ℕ). magnitude h (z / h) (z % h)) e
-        ∙ ap (λ (z : ℕ). magnitude h z ((b / h * h + suc (b % h)) % h)) (digits-div (b / h) l)
-        ∙ ap (λ (z : ℕ). magnitude h (b / h) z) (digits-mod (b / h) l)
-        ∙ step h (b / h) (b % h)
-
-    over : (suc (b % h) < h → ⊥) → magnitude h (suc b / h) (suc b % h) ≡ magnitude h (b / h) (b % h) + gap (b / h)
-    over l =
+next h b H =
+    elim (decLt (suc (b % h)) h) [
+      | yes l ↦ let e : suc b ≡ b / h * h + suc (b % h) = omega (arith, div-add-mod' b h) in rw e (at h (b / h) (suc (b % h)) l ∙ step h (b / h) (b % h))
+      | no l ↦
         let k : suc (b % h) ≡ h = omega (arith, mod-lt b H) in
-        let e : suc b ≡ suc (b / h) * h + 0 = omega (arith, whole, suc-mul (b / h) h) in
-        ap (λ (z : ℕ). magnitude h (z / h) (z % h)) e
-        ∙ ap (λ (z : ℕ). magnitude h z ((suc (b / h) * h + 0) % h)) (digits-div (suc (b / h)) H)
-        ∙ ap (λ (z : ℕ). magnitude h (suc (b / h)) z) (digits-mod (suc (b / h)) H)
-        ∙ cross h (b / h) (b % h) k
+        let e : suc b ≡ suc (b / h) * h + 0 = omega (arith, div-add-mod' b h, suc-mul (b / h) h) in
+        rw e (at h (suc (b / h)) 0 H ∙ cross h (b / h) (b % h) k)
+    ]
 
 pub hid-pos : (f : Format) → 0 < hid f
 hid-pos binary32 = omega arith
@@ -129,36 +116,27 @@ low-lt : (f : Format) (den : ℕ) → 0 < den → (b : ℕ) → 0 < b → mag f 
 low-lt f den D b B = subst (λ (z : ℕ). mag f (b - 1) * den < mag f z * den) (omega arith) (times-lt f den D (b - 1))
 
 pub within→nearest : (f : Format) (num den : ℕ) → 0 < den → (b : ℕ) → Within f num den b → Nearest f num den b
-within→nearest f num den D b w = record { near = near; even = even }
-  where
-    N : ℕ
-    N = num * 2 ^ low f
-
-    X : ℕ
-    X = mag f b * den
-
-    L : ℕ
-    L = mag f (b - 1) * den
-
-    H : ℕ
-    H = mag f (suc b) * den
-
-    near : (c : ℕ) → c ≤ infinite f → apart (num * 2 ^ low f) (mag f b * den) ≤ apart (num * 2 ^ low f) (mag f c * den)
-    near c _ =
-        elim (decLt c b) [
-          | yes l ↦ below-near N X L (mag f c * den) (b % 2) (w .lo) (low-lt f den D b (omega arith)) (mul-le-mul-right den (mag-mono f c (b - 1) (omega arith)))
-          | no l ↦ elim (decLt b c) [
-            | yes g ↦ above-near N X H (mag f c * den) (b % 2) (w .hi) (times-lt f den D b) (mul-le-mul-right den (mag-mono f (suc b) c g))
-            | no g ↦ let e : b ≡ c = omega arith in rw e (le-refl _)
-          ]
+within→nearest f num den D b w =
+    let N = num * 2 ^ low f in
+    let X = mag f b * den in
+    let L = mag f (b - 1) * den in
+    let H = mag f (suc b) * den in
+    let under : (c : ℕ) → c < b → (L < X) × (mag f c * den ≤ L) =
+    λ c l. (low-lt f den D b (omega arith), mul-le-mul-right den (mag-mono f c (b - 1) (omega arith))) in
+    let over : (c : ℕ) → b < c → H ≤ mag f c * den = λ c l. mul-le-mul-right den (mag-mono f (suc b) c l) in
+    record {
+      near = λ c _. elim (decLt c b) [
+        | yes l ↦ below-near N X L (mag f c * den) (b % 2) (w .lo) (under c l .0) (under c l .1)
+        | no l ↦ elim (decLt b c) [
+          | yes g ↦ above-near N X H (mag f c * den) (b % 2) (w .hi) (times-lt f den D b) (over c g)
+          | no g ↦ let e : b ≡ c = omega arith in rw e (le-refl _)
         ]
-
-    even : (c : ℕ) → c ≤ infinite f → (c ≡ b → ⊥) → apart (num * 2 ^ low f) (mag f b * den) ≡ apart (num * 2 ^ low f) (mag f c * den) → b % 2 ≡ 0
-    even c _ d e =
-        elim (decLt c b) [
-          | yes l ↦ below-even N X L (mag f c * den) (b % 2) (w .lo) (low-lt f den D b (omega arith)) (mul-le-mul-right den (mag-mono f c (b - 1) (omega arith))) e
-          | no l ↦ above-even N X H (mag f c * den) (b % 2) (w .hi) (times-lt f den D b) (mul-le-mul-right den (mag-mono f (suc b) c (omega arith))) e
-        ]
+      ];
+      even = λ c _ d e. elim (decLt c b) [
+        | yes l ↦ below-even N X L (mag f c * den) (b % 2) (w .lo) (under c l .0) (under c l .1) e
+        | no l ↦ above-even N X H (mag f c * den) (b % 2) (w .hi) (times-lt f den D b) (over c (omega arith)) e
+      ];
+    }
 
 -- the test computes what the two ends say
 pub within-of : (f : Format) (num den b : ℕ) → T (nearest f num den b) → Within f num den b

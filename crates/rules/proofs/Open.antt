@@ -12,9 +12,10 @@ use Rattle.rules.specs.Encode.{field, encode-fields, run-fields, runs-fi
 use Rattle.rules.specs.Layout.{or-script, effective, not-negative, byte-width, styled-width, width, _⊕_, last, parts-shape, only-if-block, room, kept-inline, chosen, rigid-block, before, leaf-flexible, block-flexible, in-turn, nothing-yet, and-node, at-end, parts, rigid-text, rigid-runs, rigid, fragment-layout, layout}
 use Rattle.rules.specs.Lines.{later, styled, text-ops, run-ops, runs-ops, leaf-ops, ops, start, ignored, joined, target, making, release, levels, spacing, item, broken, step, run, items}
 use Rattle.rules.specs.Plain.{chars, plain, fill}
-use Rattle.rules.specs.Float.{mag, nearest, prefers-lower, choice, at-places, found, from-places, shortest}
+use Rattle.rules.specs.Float.{mag}
+use Rattle.rules.specs.Search.{nearest, prefers-lower, choice, at-places, found, from-places, shortest}
 use Rattle.rules.specs.Sizes.{signed-decimal, opacity-text, total, below-zero, rounded, product-of, sum-of, em, em-text}
-use Rattle.rules.specs.Html.{separated, colour-css, weight-css, size-css, script, css, tag-name, attribute, open-tag, close-tag, escape, root, opening, closing, makes, copies, escaped, id-attribute, mark-html, item-html, items-html, body, begins, scope, scope-byte, still-to-skip, with-scope, lines, style-element, before-body, after-body, document}
+use Rattle.rules.specs.Html.{separated, colour-css, weight-css, size-css, script, css, tag-name, attribute, open-tag, close-tag, escape, root, opening, closing, makes, copies, escaped, id-attribute, mark-html, item-html, items-html, body, scope, scoped, lines, style-element, before-body, after-body, document}
 use Rattle.rules.specs.Answers.{tree, check-answer, laid-out, changed, left-laid, layout-outcome, plain-text, body-text, document-text, written, left-page, plain-outcome, body-outcome, document-outcome}
 use Rattle.rules.specs.Cases.{nibble, paired, still, pairs, unhex, print-at, answer, case, writes, leaves, nested, call, examples}
 use Rattle.rules.specs.Refusals.{answers, no, no-bytes, inside-blocks, refusals}
@@ -31,7 +32,7 @@ unfolding
     later styled text-ops run-ops runs-ops leaf-ops ops start ignored joined target making release levels spacing item broken step run items chars plain fill
     mag nearest prefers-lower choice at-places found from-places shortest signed-decimal opacity-text total below-zero rounded product-of sum-of em em-text
     separated colour-css weight-css size-css script css tag-name attribute open-tag close-tag escape root opening closing makes copies escaped id-attribute mark-html item-html items-html body
-    begins scope scope-byte still-to-skip with-scope lines style-element before-body after-body document
+    scope scoped lines style-element before-body after-body document
     tree check-answer laid-out changed left-laid layout-outcome plain-text body-text document-text written left-page plain-outcome body-outcome document-outcome
     nibble paired still pairs unhex print-at answer case writes leaves nested call examples answers no no-bytes inside-blocks refusals
 all-open = 0

@@ -9,7 +9,7 @@ use Rattle.rules.specs.Lines.{Item, char, marked, Mark, push, pop, open-
 use Rattle.rules.specs.Plain.{chars, plain, fill}
 use Rattle.rules.specs.Html.{Escape, ampersand, less-than, as-it-is, makes, copies, escaped, id-attribute, mark-html, item-html, items-html, body, document}
 use Rattle.rules.proofs.Maps.{map-frag, map-out, map-item, map-mark}
-use Rattle.rules.proofs.Lists.{map-append}
+use Rattle.rules.proofs.Lists.{map-append, map-map}
 use Rattle.rules.proofs.LayoutMap.{old}
 use Rattle.rules.proofs.LinesMap.{items-map}
 
@@ -37,13 +37,11 @@ module _ {X Y : Type 0} (f : X → Y) where
 
   makes-map : (bs : List ℕ) → makes bs ≡ map (map-out f) (makes bs)
   unfolding makes
-  makes-map [] = refl
-  makes-map (b ∷ bs) = ap (made b ∷_) (makes-map bs)
+  makes-map bs = simp map-map
 
   copies-map : (xs : List X) → copies (map f xs) ≡ map (map-out f) (copies xs)
   unfolding copies
-  copies-map [] = refl
-  copies-map (x ∷ xs) = ap (copied (f x) ∷_) (copies-map xs)
+  copies-map xs = simp map-map
 
   escaped-map : (e : Escape) (x : X) → escaped e (f x) ≡ map (map-out f) (escaped e x)
   unfolding escaped

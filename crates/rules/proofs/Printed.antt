@@ -1,6 +1,6 @@
 -- Printed numbers: digits only, no leading zeros, one point at most; and a printed decimal reads back as that decimal.
 use mathlib.Core.Path.{_≡_, refl, sym, _∙_, ap, ap₂}
-use mathlib.Core.List.{List, [], _∷_, _++_}
+use mathlib.Core.List.{List, [], _∷_, _++_, append-nil, append-assoc}
 use mathlib.Core.Bool.{Bool, true, false}
 use Prim.Native.Nat.{ℕ, zero, suc, _+_, _-_, _*_, _/_, _%_, _^_, _≤_, _<_}
 use native.Mathlib.Nat.{le-refl, pow-suc, div-div-eq-div-mul, mul-comm, div-one}
@@ -121,22 +121,14 @@ unfolding last-digits
 last-only zero n = tt
 last-only (suc p) n = digits-append (last-digits p (n / 10)) (digit (n % 10) ∷ []) (last-only p (n / 10)) (one-digit n)
 
-append-assoc-one : (a b : List ℕ) (c : ℕ) → a ++ (b ++ (c ∷ [])) ≡ (a ++ b) ++ (c ∷ [])
-append-assoc-one [] b c = refl
-append-assoc-one (x ∷ a) b c = ap (x ∷_) (append-assoc-one a b c)
-
-append-none : (a : List ℕ) → a ++ [] ≡ a
-append-none [] = refl
-append-none (x ∷ a) = ap (x ∷_) (append-none a)
-
 -- the digits before the point and the last ones give the whole number
 whole-value : (p n : ℕ) → value (digits (n / 10 ^ p) ++ last-digits p n) ≡ n
 unfolding last-digits
-whole-value zero n = ap value (append-none (digits (n / 10 ^ 0))) ∙ digits-right (n / 10 ^ 0) .gives ∙ div-one n
+whole-value zero n = ap value (append-nil (digits (n / 10 ^ 0))) ∙ digits-right (n / 10 ^ 0) .gives ∙ div-one n
 whole-value (suc p) n =
     let e : n / 10 ^ suc p ≡ n / 10 / 10 ^ p = ap (λ (z : ℕ). n / z) (pow-suc 10 p ∙ mul-comm (10 ^ p) 10) ∙ sym (div-div-eq-div-mul n 10 (10 ^ p)) in
     ap (λ (z : ℕ). value (digits z ++ (last-digits p (n / 10) ++ (digit (n % 10) ∷ [])))) e
-    ∙ ap value (append-assoc-one (digits (n / 10 / 10 ^ p)) (last-digits p (n / 10)) (digit (n % 10)))
+    ∙ ap value (sym (append-assoc (digits (n / 10 / 10 ^ p)) (last-digits p (n / 10)) (digit (n % 10) ∷ [])))
     ∙ value-append 0 (digits (n / 10 / 10 ^ p) ++ last-digits p (n / 10)) (digit (n % 10))
     ∙ omega (arith, whole-value p (n / 10))
 
@@ -176,7 +168,7 @@ split-decimal : (negative : Bool) (n p : ℕ) → unsigned negative (split-point
 unfolding fraction last-digits
 split-decimal negative n zero =
     let D = digits-right (n / 10 ^ 0) in
-    ap (λ (s : List ℕ). unsigned negative (split-point s)) (append-none (digits (n / 10 ^ 0))) ∙ ap (unsigned negative) (no-point (digits (n / 10 ^ 0)) (D .digits-only))
+    ap (λ (s : List ℕ). unsigned negative (split-point s)) (append-nil (digits (n / 10 ^ 0))) ∙ ap (unsigned negative) (no-point (digits (n / 10 ^ 0)) (D .digits-only))
     ∙ ap (λ (m : ℕ). decimal negative m 0) (whole-value 0 n)
 split-decimal negative n (suc p) =
     let D = digits-right (n / 10 ^ suc p) in

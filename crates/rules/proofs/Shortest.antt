@@ -2,15 +2,16 @@
 use mathlib.Core.Path.{_≡_, refl, sym, ap, _∙_, subst}
 use mathlib.Core.Bool.{Bool, true, false}
 use mathlib.Core.Option.{Option, none, some}
-use Prim.Native.Nat.{ℕ, zero, suc, _+_, _-_, _*_, _/_, _^_, _≤_, _<_, zero-le}
-use native.Mathlib.Nat.{one-le-pow, suc-mul, mul-le-mul-right, div-add-mod', mod-lt, pow-suc, mul-assoc, mul-right-comm, mul-div-cancel, zero-add}
+use Prim.Native.Nat.{ℕ, zero, suc, _+_, _*_, _/_, _^_, _≤_, _<_, zero-le}
+use native.Mathlib.Nat.{one-le-pow, suc-mul, mul-le-mul-right, div-add-mod', mod-lt, pow-suc, mul-assoc, mul-div-cancel, zero-add}
 use native.Mathlib.Decide.{decLe, decLt}
 use native.Mathlib.Omega.{arith}
 use lib.Dec.{T}
 use lib.Pow.{pow-pos}
 use lib.Ieee.{Format, low}
 use borrow.Author.Tests.{leb-true, leb-false, ltb-true, ltb-false, le-leb, lt-ltb}
-use Rattle.rules.specs.Float.{mag, infinite, ReadsBack, off, AtMost, Shortest, nearest, floor, prefers-lower, choice, at-places, Fraction, found, from-places, shortest}
+use Rattle.rules.specs.Float.{mag, infinite, ReadsBack, off, AtMost, Shortest}
+use Rattle.rules.specs.Search.{nearest, floor, prefers-lower, choice, at-places, Fraction, found, from-places, shortest}
 use Rattle.rules.proofs.Nearest.{Within, within-of, within-test, within→nearest, nearest→within, own-low, own-high}
 
 pub ten-pos : (p : ℕ) → 0 < 10 ^ p
@@ -152,14 +153,7 @@ module _ (f : Format) (s : Bool) (b : ℕ) (F : b < infinite f) where
   -- with low f places the value is a whole number
   ten-pow : (k : ℕ) → 10 ^ k ≡ 5 ^ k * 2 ^ k
   ten-pow zero = refl
-  ten-pow (suc k) =
-      let x : 10 ^ suc k ≡ 10 ^ k * 10 = pow-suc 10 k in
-      let y : 5 ^ suc k * 2 ^ suc k ≡ 5 ^ k * 2 ^ k * 10 =
-      ap (λ (z : ℕ). z * 2 ^ suc k) (pow-suc 5 k) ∙ ap (λ (z : ℕ). 5 ^ k * 5 * z) (pow-suc 2 k) ∙ regroup (5 ^ k) (2 ^ k) in
-      x ∙ ap (λ (z : ℕ). z * 10) (ten-pow k) ∙ sym y
-    where
-      regroup : (u v : ℕ) → u * 5 * (v * 2) ≡ u * v * 10
-      regroup u v = sym (mul-assoc (u * 5) v 2) ∙ ap (λ (z : ℕ). z * 2) (mul-right-comm u 5 v) ∙ mul-assoc (u * v) 5 2
+  ten-pow (suc k) = rw (pow-suc 10 k, pow-suc 5 k, pow-suc 2 k) (omega (arith, ten-pow k))
 
   whole : floor f b (low f) * 2 ^ low f ≡ mag f b * 10 ^ low f
   whole =

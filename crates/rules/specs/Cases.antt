@@ -93,8 +93,9 @@ nested (suc n) = field 3 (field 8 (nested n))
 unfoldable pub call : String
 call = "01000511000266 28 040022 080011 01000411000161 0100041100012C 050000 08000B 01000411000162 0700012C 01000411000129"
 
-unfoldable pub examples : List Case
-examples =
+-- one list for each width w, which P10 alone looks at
+unfoldable pub examples : (w : ℕ) → List Case
+examples w =
     -- P1, P2
     case (printed 7) call (writes "f(a, b)")
     ∷ case (printed 6) call (writes "f(\n  a,\n  b,\n)")
@@ -114,10 +115,8 @@ examples =
     -- P9
     ∷ case (laid 2) "040012 08000F 01000C 100003 240000 110003616263" (leaves "030012 08000F 01000C 100003 240000 110003616263")
     ∷ case (laid 3) "040012 08000F 01000C 100003 240000 110003616263" (leaves "040012 08000F 01000C 100003 240000 110003616263")
-    -- P10
-    ∷ case (printed 0) "01000411000178 04000C 080009 010006 110003610A62" (writes "x\n  a\n  b")
-    ∷ case (printed 80) "01000411000178 04000C 080009 010006 110003610A62" (writes "x\n  a\n  b")
-    ∷ case (printed 6_553) "01000411000178 04000C 080009 010006 110003610A62" (writes "x\n  a\n  b")
+    -- P10: at every width
+    ∷ case (printed w) "01000411000178 04000C 080009 010006 110003610A62" (writes "x\n  a\n  b")
     -- P11
     ∷ case (printed 80) "030011 08000E 020004 13000170 01000411000178" (writes "  x")
     ∷ case in-html "030011 08000E 020004 13000170 01000411000178" (writes "<pre class=\"spirt-90c2056d-5b38-4644-824a-b4be1c82f14d\">\n<a href=\"#p\"></a>  x</pre>")

@@ -2,7 +2,7 @@
 use mathlib.Core.List.{List, [], _∷_, _++_, map}
 use mathlib.Core.Option.{Option, none, some}
 use mathlib.Core.Bool.{Bool, true, false, _||_}
-use Prim.Native.Nat.{ℕ, zero, suc}
+use Prim.Native.Nat.{ℕ}
 use Prim.Native.String.{String}
 use lib.Dec.{eqb}
 use lib.IntN.{ℤ, pos, _+ℤ_, _*ℤ_}
@@ -119,80 +119,59 @@ module _ {X : Type 0} (look : X → Escape) where
 
 -- ---- the document
 
--- some bytes begin with others
-unfoldable pub begins : (others : List ℕ) → List ℕ → Bool
-begins [] s = true
-begins (o ∷ os) [] = false
-begins (o ∷ os) (b ∷ s) = if eqb o b then begins os s else false
-
--- what stands in for the word SCOPE
+-- what every selector of the style element begins with, which 000 has as the word SCOPE
 unfoldable pub scope : List ℕ
 scope = ascii "pre." ++ root
 
--- one byte with what follows it: `skip` bytes of a SCOPE are still to be passed over, or it begins one, or it stays
-unfoldable pub scope-byte : (skip : ℕ) → (here : Bool) → ℕ → List ℕ → List ℕ
-scope-byte (suc skip) here b rest = rest
-scope-byte zero true b rest = scope ++ rest
-scope-byte zero false b rest = b ∷ rest
+-- a selector's line, whose rest follows the scope
+unfoldable pub scoped : String → List ℕ
+scoped rest = join (ascii "    " ∷ scope ∷ ascii rest ∷ [])
 
-unfoldable pub still-to-skip : ℕ → Bool → ℕ
-still-to-skip (suc skip) here = skip
-still-to-skip zero true = 4
-still-to-skip zero false = 0
-
--- a text with its scope put in
-unfoldable pub with-scope : (skip : ℕ) → List ℕ → List ℕ
-with-scope skip [] = []
-with-scope skip (b ∷ s) =
-    let here : Bool = begins (ascii "SCOPE") (b ∷ s) in
-    let rest : List ℕ = with-scope (still-to-skip skip here) s in
-    scope-byte skip here b rest
-
-unfoldable pub lines : List String → List ℕ
+-- each line with its newline
+unfoldable pub lines : List (List ℕ) → List ℕ
 lines [] = []
-lines (l ∷ ls) = ascii l ++ (10 ∷ lines ls)
+lines (l ∷ ls) = l ++ (10 ∷ lines ls)
 
 unfoldable pub style-element : List ℕ
 style-element =
-    with-scope 0
-    (lines
-    (""
-    ∷ "<style>"
-    ∷ "    SCOPE {"
-    ∷ "        /* HACK(eddyb) reset default margin to something reasonable. */"
-    ∷ "        margin: 1ch;"
-    ∷ ""
-    ∷ "        /* HACK(eddyb) avoid unnecessarily small or thin text. */"
-    ∷ "        font-size: 17px;"
-    ∷ "        font-weight: 500;"
-    ∷ "    }"
-    ∷ "    SCOPE a {"
-    ∷ "        color: unset;"
-    ∷ "        font-weight: 900;"
-    ∷ "    }"
-    ∷ "    SCOPE a:not(:hover) {"
-    ∷ "        text-decoration: unset;"
-    ∷ "    }"
-    ∷ "    SCOPE sub, SCOPE sup {"
-    ∷ "        line-height: 0;"
-    ∷ "    }"
-    ∷ ""
-    ∷ "    /* HACK(eddyb) using a class (instead of an inline style) so that hovering"
-    ∷ "       over a multiversion table cell can disable its desaturation/dimming */"
-    ∷ "    SCOPE:not(:hover) .unchanged {"
-    ∷ "        filter: saturate(0.3) opacity(0.5);"
-    ∷ "    }"
-    ∷ "</style>"
-    ∷ []))
+    lines
+    ([]
+    ∷ ascii "<style>"
+    ∷ scoped " {"
+    ∷ ascii "        /* HACK(eddyb) reset default margin to something reasonable. */"
+    ∷ ascii "        margin: 1ch;"
+    ∷ []
+    ∷ ascii "        /* HACK(eddyb) avoid unnecessarily small or thin text. */"
+    ∷ ascii "        font-size: 17px;"
+    ∷ ascii "        font-weight: 500;"
+    ∷ ascii "    }"
+    ∷ scoped " a {"
+    ∷ ascii "        color: unset;"
+    ∷ ascii "        font-weight: 900;"
+    ∷ ascii "    }"
+    ∷ scoped " a:not(:hover) {"
+    ∷ ascii "        text-decoration: unset;"
+    ∷ ascii "    }"
+    ∷ join (scoped " sub, " ∷ scope ∷ ascii " sup {" ∷ [])
+    ∷ ascii "        line-height: 0;"
+    ∷ ascii "    }"
+    ∷ []
+    ∷ ascii "    /* HACK(eddyb) using a class (instead of an inline style) so that hovering"
+    ∷ ascii "       over a multiversion table cell can disable its desaturation/dimming */"
+    ∷ scoped ":not(:hover) .unchanged {"
+    ∷ ascii "        filter: saturate(0.3) opacity(0.5);"
+    ∷ ascii "    }"
+    ∷ ascii "</style>"
+    ∷ [])
 
 unfoldable pub before-body : List ℕ
 before-body =
     join
-    (lines ("<!doctype html>" ∷ "<html>" ∷ "<head>" ∷ "<meta charset=\"utf-8\">" ∷ [])
-    ∷ style-element ∷ lines ("" ∷ "</head>" ∷ []) ∷ ascii "<body>" ∷ [])
+    (lines (ascii "<!doctype html>" ∷ ascii "<html>" ∷ ascii "<head>" ∷ ascii "<meta charset=\"utf-8\">" ∷ [])
+    ∷ style-element ∷ lines ([] ∷ ascii "</head>" ∷ []) ∷ ascii "<body>" ∷ [])
 
 unfoldable pub after-body : List ℕ
-after-body = lines ("</body>" ∷ "</html>" ∷ [])
+after-body = lines (ascii "</body>" ∷ ascii "</html>" ∷ [])
 
 unfoldable pub document : {X : Type 0} → (look : X → Escape) → (newline : X → Bool) → Frag X → List (Out X)
 document look newline t = makes before-body ++ (body look newline t ++ makes after-body)

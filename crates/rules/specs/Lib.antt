@@ -13,6 +13,8 @@ pub mod Ahead
 pub mod Lines
 pub mod Plain
 pub mod Float
+pub mod Search
+pub mod Values
 pub mod Sizes
 pub mod Html
 pub mod Answers

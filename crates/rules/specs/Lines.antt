@@ -155,9 +155,13 @@ module _ {X : Type 0} where
   broken true m b = ([], m)
   broken false m b = ([], record { level = m .level; line = m .line; waiting = some (joined (m .waiting) b) })
 
+  -- an empty part does nothing at all
+  abbrev pub unless-empty : List X → Machine → List (Item X) × Machine → List (Item X) × Machine
+  unless-empty [] m r = ([], m)
+  unless-empty (x ∷ s) m r = r
+
   unfoldable pub step : Machine → LineOp X → List (Item X) × Machine
-  step m (part []) = ([], m)
-  step m (part (x ∷ s)) = item m false (map (λ y. char (copied y)) (x ∷ s)) (λ l. has-text)
+  step m (part s) = unless-empty s m (item m false (map (λ y. char (copied y)) s) (λ l. has-text))
   step m (mark k) = item m false (marked k ∷ []) (λ l. l)
   step m (empty-anchor definition a) = item m true (marked (open-anchor definition a) ∷ marked close-anchor ∷ []) (λ l. l)
   step m new-line = (making (10 ∷ []), record { level = m .level; line = empty; waiting = none })

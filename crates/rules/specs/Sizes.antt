@@ -7,15 +7,10 @@ use lib.Dec.{ltb}
 use lib.IntN.{ℤ, pos, negsuc}
 use lib.Ieee.{binary32, binary64, low, round, toBits}
 use Rattle.rules.specs.Digits.{Decimal, decimal-text}
-use Rattle.rules.specs.Float.{apart, mag, infinite, Nearest, Shortest, Fraction, shortest}
+use Rattle.rules.specs.Float.{apart, mag, infinite, Nearest, Shortest}
+use Rattle.rules.specs.Search.{Fraction, shortest}
 
-unfoldable pub signed-decimal : Bool → Fraction → Decimal
-signed-decimal negative x = record { negative = negative; whole = x .whole; places = x .places }
-
-unfoldable pub opacity-text : (bits : ℕ) → List ℕ
-opacity-text bits = decimal-text (signed-decimal false (shortest binary32 false bits))
-
--- ---- em sizes
+-- ---- the rule of em sizes; that of opacities is `Shortest` of their bits
 
 -- the unit of doubles: 1.0 is `one` of their smallest value
 abbrev pub one : ℕ
@@ -35,7 +30,7 @@ unfoldable pub below-zero : ℤ → (m : ℕ) → Bool
 below-zero (pos n) m = false
 below-zero (negsuc n) m = ltb one m
 
--- the rule: three doubles, each nearest to what it stands for, and the shortest decimal of the last
+-- three doubles, each nearest to what it stands for, and the shortest decimal of the last
 pub record Em (size : ℤ) (d : Decimal) : Type 0 where
   pub tenth : ℕ
   pub product : ℕ
@@ -47,7 +42,15 @@ pub record Em (size : ℤ) (d : Decimal) : Type 0 where
   pub sign : d .negative ≡ below-zero size (mag binary64 product)
   pub shortest-sum : Shortest binary64 (d .negative) sum (d .whole) (d .places)
 
--- how it is found: the pattern of num / den, rounded as the library's IEEE 754 has it
+-- ---- how they are found
+
+unfoldable pub signed-decimal : Bool → Fraction → Decimal
+signed-decimal negative x = record { negative = negative; whole = x .whole; places = x .places }
+
+unfoldable pub opacity-text : (bits : ℕ) → List ℕ
+opacity-text bits = decimal-text (signed-decimal false (shortest binary32 false bits))
+
+-- the pattern of num / den, rounded as the library's IEEE 754 has it
 unfoldable pub rounded : (num den : ℕ) → ℕ
 rounded num den = toBits binary64 (round binary64 false num den)
 

@@ -5,7 +5,7 @@ use native.Mathlib.Omega.{arith}
 use lib.Ieee.{binary32}
 use borrow.Author.Needs.{needs}
 use Rattle.digits.specs.Said.{decimal-of}
-use Rattle.rules.specs.Float.{shortest}
+use Rattle.rules.specs.Search.{shortest}
 use Rattle.rules.specs.Sizes.{signed-decimal}
 use Rattle.opacities.proofs.Patterns.{in-range, sized, scaled-two, scaled-four, reached-two, reached-four, field-from, field-to}
 use Rattle.opacities.proofs.Bounds.{of-zero}
