@@ -16,9 +16,9 @@ pub mod Laid
 pub mod LaidFile
 pub mod Changed
 pub mod Turned
+pub mod Reread
 pub mod Places
 pub mod Masked
-pub mod AlikeMask
 pub mod Filled
 pub mod Demand3
 pub mod Refused
