@@ -99,12 +99,16 @@ seen {kept = kept} {s} {s′} q S A = fun-ext (λ p. go p (leb (length s) p) ref
 
 -- ---- pages
 
--- what a page's entry answers and leaves, of a file with its tree
+-- what a page's entry answers and leaves, whichever page it is
+pub by-kind : (k : Page) (s q : List ℕ) → outcome-of k s q ≡ left-page (tree s >>= (λ t. accepted (fill itself (shown k escape newline t)))) q
+unfolding plain-outcome plain-text body-outcome body-text document-outcome document-text
+by-kind plain-page s q = refl
+by-kind html-body s q = refl
+by-kind html-document s q = refl
+
 page-left : (k : Page) (s q : List ℕ) (t : Frag ℕ) → tree s ≡ accepted t → outcome-of k s q ≡ left-page (accepted (fill itself (shown k escape newline t))) q
-unfolding plain-outcome plain-text body-outcome body-text document-outcome document-text _>>=_
-page-left plain-page s q t e = rw e
-page-left html-body s q t e = rw e
-page-left html-document s q t e = rw e
+unfolding _>>=_
+page-left k s q t e = by-kind k s q ∙ ap (λ r. left-page (r >>= (λ t. accepted (fill itself (shown k escape newline t)))) q) e
 
 page-filled : (k : Page) (s : List ℕ) (t : Frag ℕ) → fill itself (shown k escape newline (map-frag (at s) t)) ≡ fill (at s) (shown k (λ p. escape (at s p)) (λ p. newline (at s p)) t)
 page-filled k s t = ap (fill itself) (shown-map k (at s) escape newline t) ∙ fill-map (at s) itself (shown k (λ p. escape (at s p)) (λ p. newline (at s p)) t)

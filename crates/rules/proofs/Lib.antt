@@ -1,5 +1,6 @@
 -- The theorems about document 01's rules.
 pub mod Open
+pub mod MaskExample
 pub mod Examples
 pub mod Chains
 pub mod Accepted
