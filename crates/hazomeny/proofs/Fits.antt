@@ -1,4 +1,5 @@
--- Every answer fits 64 bits: places and counts are at most a file's length, and a page is shorter than 2^50 bytes.
+-- Every answer's number fits 64 bits and loses nothing: places and counts are at most a file's length, a page is shorter than 2^50 bytes, and refusals
+-- have numbers of 1 to 255.
 use mathlib.Core.Path.{_≡_, refl, sym, subst, _∙_, ap}
 use mathlib.Core.List.{List}
 use mathlib.Core.Bool.{Bool, true, false}
@@ -13,56 +14,75 @@ use Rattle.rules.specs.Tree.{Frag}
 use Rattle.rules.specs.Encode.{encode}
 use Rattle.rules.specs.Layout.{layout}
 use Rattle.rules.specs.Good.{Bytes, GoodTree}
-use Rattle.rules.specs.Plain.{plain, fill}
-use Rattle.rules.specs.Html.{escape, body, document}
-use Rattle.rules.specs.Answers.{itself, tree, laid-out, left-laid, layout-outcome, written, left-page, plain-text, plain-outcome, body-text, body-outcome, document-text, document-outcome, coded, coded-outcome}
+use Rattle.rules.specs.Plain.{fill}
+use Rattle.rules.specs.Html.{escape}
+use Rattle.rules.specs.Answers.{itself, tree, check-answer, laid-out, left-laid, layout-outcome, written, left-page, coded, coded-outcome}
+use Rattle.rules.specs.Alike.{Page, plain-page, html-body, html-document, outcome-of, shown}
 use Rattle.rules.proofs.Files.{Read, tree-read}
+use Rattle.rules.proofs.Refused.{Refusable, too-long, at-fault, refused-place}
+use Rattle.rules.proofs.Unique.{Numbered}
+use Rattle.rules.proofs.Demand3.{by-kind}
 use Rattle.pages.proofs.PageLengths.{plain-short}
 use Rattle.pages.proofs.HtmlLengths.{body-short, document-short}
-use Rattle.rules.proofs.Refused.{coded-refused}
 use Rattle.layout.proofs.Counted.{changed-le}
 
-pub coded-layout : (w : ℕ) (s : List ℕ) → coded (layout-outcome w s .0) < 2 ^ 64
+-- an answer whose number fits and loses nothing
+pub record Told (x : Result ℕ) : Type 0 where
+  pub fits : coded x < 2 ^ 64
+  pub numbered : Numbered x
+
+told-refused : (s : List ℕ) (n p : ℕ) → tree s ≡ refused n p → Told (refused n p)
+unfolding coded
+told-refused s n p e = go (refused-place s n p e)
+  where
+    go : Refusable s n p → Told (refused n p)
+    go (too-long x y l) = omega (arith, x, y)
+    go (at-fault F l m) = omega (arith, F)
+
+pub told-check : (s : List ℕ) → Told (check-answer s)
+unfolding check-answer coded _>>=_
+told-check s = go (tree s) refl
+  where
+    go : (x : Result (Frag ℕ)) → tree s ≡ x → Told (x >>= (λ t. accepted 0))
+    go (refused n p) e = told-refused s n p e
+    go (accepted t) e = omega arith
+
+pub told-layout : (w : ℕ) (s : List ℕ) → Told (layout-outcome w s .0)
 unfolding layout-outcome laid-out left-laid coded need _>>_ _>>=_
-coded-layout w s = go (leb (length s) 60_000) (leb w 6_553) (tree s) refl refl
+told-layout w s = go (leb (length s) 60_000) (leb w 6_553) (tree s) refl refl
   where
     go : (b c : Bool) (x : Result (Frag ℕ)) → leb (length s) 60_000 ≡ b → tree s ≡ x
-        → coded (left-laid s (need b 1 0 >> (need c 2 0 >> (x >>= (λ t. accepted (layout newline w t))))) .0) < 2 ^ 64
+        → Told (left-laid s (need b 1 0 >> (need c 2 0 >> (x >>= (λ t. accepted (layout newline w t))))) .0)
     go false c x e f = omega arith
     go true false x e f = omega arith
-    go true true (refused n p) e f = coded-refused s n p f
+    go true true (refused n p) e f = told-refused s n p f
     go true true (accepted t) e f = omega (arith, changed-le 0 s (encode (layout newline w t)), leb-true (length s) 60_000 e)
 
-coded-written : (fits : Bool) (text page : List ℕ) → length text < 2 ^ 50 → coded (written fits text page .0) < 2 ^ 64
+told-written : (fits : Bool) (text page : List ℕ) → length text < 2 ^ 50 → Told (written fits text page .0)
 unfolding written coded
-coded-written true text page h = omega arith
-coded-written false text page h = omega arith
+told-written true text page h = omega arith
+told-written false text page h = omega arith
 
--- a page whose texts have an end
-coded-page : (text : Frag ℕ → List ℕ) → ((t : Frag ℕ) → GoodTree t → Bytes (encode t) → length (text t) < 2 ^ 50) → (s page : List ℕ) → Bytes s
-    → coded (left-page (tree s >>= (λ t. accepted (text t))) page .0) < 2 ^ 64
-unfolding left-page coded _>>=_
-coded-page text short s page b = go (tree s) refl
+short : (k : Page) (t : Frag ℕ) → GoodTree t → Bytes (encode t) → length (fill itself (shown k escape newline t)) < 2 ^ 50
+short plain-page t G b = plain-short t G
+short html-body t G b = body-short t G b
+short html-document t G b = document-short t G b
+
+pub told-page : (k : Page) (s page : List ℕ) → Bytes s → Told (outcome-of k s page .0)
+unfolding left-page _>>=_
+told-page k s page b = rw (by-kind k s page) (go (tree s) refl)
   where
-    go : (x : Result (Frag ℕ)) → tree s ≡ x → coded (left-page (x >>= (λ t. accepted (text t))) page .0) < 2 ^ 64
-    go (refused n p) f = coded-refused s n p f
+    go : (x : Result (Frag ℕ)) → tree s ≡ x → Told (left-page (x >>= (λ t. accepted (fill itself (shown k escape newline t)))) page .0)
+    go (refused n p) f = told-refused s n p f
     go (accepted t) f =
         let R : Read s t = tree-read s t b f in
-        coded-written (leb (length (text t)) (length page)) (text t) page (short t (R .good) (subst Bytes (sym (R .encodes)) b))
+        let text = fill itself (shown k escape newline t) in
+        told-written (leb (length text) (length page)) text page (short k t (R .good) (subst Bytes (sym (R .encodes)) b))
 
-pub coded-plain : (s page : List ℕ) → Bytes s → coded (plain-outcome s page .0) < 2 ^ 64
-unfolding plain-outcome plain-text _>>=_
-coded-plain s page b = coded-page (λ t. fill itself (plain newline t)) (λ t G b. plain-short t G) s page b
+-- an answer that is an outcome's, and its number with the bytes left
+pub coded-fits : {a : Result ℕ} {s : List ℕ} (o : Result ℕ × List ℕ) → Told (o .0) → (a, s) ≡ o → coded a < 2 ^ 64
+coded-fits o h e = subst (λ (x : Result ℕ). coded x < 2 ^ 64) (sym (ap (λ (x : Result ℕ × List ℕ). x .0) e)) (h .fits)
 
-pub coded-body : (s page : List ℕ) → Bytes s → coded (body-outcome s page .0) < 2 ^ 64
-unfolding body-outcome body-text _>>=_
-coded-body s page b = coded-page (λ t. fill itself (body escape newline t)) body-short s page b
-
-pub coded-document : (s page : List ℕ) → Bytes s → coded (document-outcome s page .0) < 2 ^ 64
-unfolding document-outcome document-text _>>=_
-coded-document s page b = coded-page (λ t. fill itself (document escape newline t)) document-short s page b
-
--- an answer and the bytes left, said so
 pub coded-pair : (x : Result ℕ × List ℕ) {a : Result ℕ} {s : List ℕ} {r : ℕ} → r ≡ coded a → (a, s) ≡ x → (r, s) ≡ coded-outcome x
 unfolding coded-outcome
 coded-pair x {a} {s} e f = ap (λ (r : ℕ). (r, s)) e ∙ ap (λ (x : Result ℕ × List ℕ). (coded (x .0), x .1)) f

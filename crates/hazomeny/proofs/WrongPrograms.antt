@@ -1,7 +1,7 @@
 -- How far the public contracts reach: no second outcome satisfies one, and each of document 01's five wrong programs fails one at an input named here.
 use mathlib.Core.Path.{_≡_, refl, sym, _∙_, ap}
 use mathlib.Core.List.{List, []}
-use Prim.Native.Nat.{ℕ}
+use Prim.Native.Nat.{ℕ, _+_}
 use native.Mathlib.Omega.{arith}
 use lib.ListN.{length, getD, replicate}
 use Rattle.rules.specs.declared.Refusal.{Refusal}
@@ -10,13 +10,15 @@ use Rattle.rules.specs.declared.Answer.the-variants.{Done, Refused}
 use Rattle.rules.specs.Result.{Result, refused, accepted, said}
 use Rattle.rules.specs.Tree.{Frag}
 use Rattle.rules.specs.Encode.{encode}
-use Rattle.rules.specs.Answers.{check-answer, laid-out, changed, left-laid, layout-outcome, plain-outcome, body-outcome, document-outcome}
+use Rattle.rules.specs.Answers.{check-answer, laid-out, changed, left-laid, layout-outcome}
+use Rattle.rules.specs.Alike.{Page, plain-page, html-body, html-document, outcome-of}
 use Rattle.rules.specs.Cases.{unhex, call}
 use Rattle.rules.proofs.Chains.{no-path}
 use Rattle.rules.proofs.Open.{all-open}
 use Rattle.rules.proofs.Unique.{said-unique, outcome-unique}
 
--- ---- NO SECOND OUTCOME SATISFIES A CONTRACT: two answers that do, and the bytes left with them, are equal
+-- ---- NO SECOND OUTCOME SATISFIES A CONTRACT: two answers that do, and the bytes left with them, are equal. What satisfies a C name's contract says the
+-- same outcome (`Unique.coded-outcome-back` with `Fits`).
 
 pub check-determined : (s : List ℕ) (a b : Answer) → said a ≡ check-answer s → said b ≡ check-answer s → a ≡ b
 check-determined s a b x y = said-unique a b (x ∙ sym y)
@@ -24,16 +26,22 @@ check-determined s a b x y = said-unique a b (x ∙ sym y)
 pub layout-determined : (w : ℕ) (s : List ℕ) (a b : Answer) (r u : List ℕ) → (said a, r) ≡ layout-outcome w s → (said b, u) ≡ layout-outcome w s → (a ≡ b) × (r ≡ u)
 layout-determined w s = outcome-unique (layout-outcome w s)
 
-pub plain-determined : (s q : List ℕ) (a b : Answer) (r u : List ℕ) → (said a, r) ≡ plain-outcome s q → (said b, u) ≡ plain-outcome s q → (a ≡ b) × (r ≡ u)
-plain-determined s q = outcome-unique (plain-outcome s q)
-
-pub body-determined : (s q : List ℕ) (a b : Answer) (r u : List ℕ) → (said a, r) ≡ body-outcome s q → (said b, u) ≡ body-outcome s q → (a ≡ b) × (r ≡ u)
-body-determined s q = outcome-unique (body-outcome s q)
-
-pub document-determined : (s q : List ℕ) (a b : Answer) (r u : List ℕ) → (said a, r) ≡ document-outcome s q → (said b, u) ≡ document-outcome s q → (a ≡ b) × (r ≡ u)
-document-determined s q = outcome-unique (document-outcome s q)
+pub page-determined : (k : Page) (s q : List ℕ) (a b : Answer) (r u : List ℕ) → (said a, r) ≡ outcome-of k s q → (said b, u) ≡ outcome-of k s q → (a ≡ b) × (r ≡ u)
+page-determined k s q = outcome-unique (outcome-of k s q)
 
 -- ---- 1. CODE THAT REFUSES EVERYTHING: at the empty file, with a page that is long enough, no refusal satisfies a contract
+
+-- the length of the empty file's page
+abbrev pub room : Page → ℕ
+room plain-page = 0
+room html-body = 63
+room html-document = 1_072
+
+empty-page : (k : Page) → outcome-of k [] (replicate (room k) 0) .0 ≡ accepted (room k)
+unfolding all-open
+empty-page plain-page = refl
+empty-page html-body = refl
+empty-page html-document = refl
 
 not-refused : {n : ℕ} (x : Refusal) (o : Result ℕ) → said (Refused x) ≡ o → o ≡ accepted n → ⊥
 unfolding said
@@ -49,17 +57,8 @@ pub layout-refuses-not-all : (x : Refusal) (t : List ℕ) → (said (Refused x),
 unfolding all-open
 layout-refuses-not-all x t e = not-refused x (layout-outcome 0 [] .0) (ap (λ o. o .0) e) refl
 
-pub plain-refuses-not-all : (x : Refusal) (r : List ℕ) → (said (Refused x), r) ≡ plain-outcome [] [] → ⊥
-unfolding all-open
-plain-refuses-not-all x r e = not-refused x (plain-outcome [] [] .0) (ap (λ o. o .0) e) refl
-
-pub body-refuses-not-all : (x : Refusal) (r : List ℕ) → (said (Refused x), r) ≡ body-outcome [] (replicate 63 0) → ⊥
-unfolding all-open
-body-refuses-not-all x r e = not-refused x (body-outcome [] (replicate 63 0) .0) (ap (λ o. o .0) e) refl
-
-pub document-refuses-not-all : (x : Refusal) (r : List ℕ) → (said (Refused x), r) ≡ document-outcome [] (replicate 1_072 0) → ⊥
-unfolding all-open
-document-refuses-not-all x r e = not-refused x (document-outcome [] (replicate 1_072 0) .0) (ap (λ o. o .0) e) refl
+pub page-refuses-not-all : (k : Page) (x : Refusal) (r : List ℕ) → (said (Refused x), r) ≡ outcome-of k [] (replicate (room k) 0) → ⊥
+page-refuses-not-all k x r e = not-refused x _ (ap (λ o. o .0) e) (empty-page k)
 
 -- ---- 2. ONE FIXED PAGE FOR ALL FILES: no page satisfies a contract both of the file of the text `x` and of the file of the text `y`
 
@@ -69,22 +68,24 @@ x-file = unhex "010004 110001 78"
 unfoldable pub y-file : List ℕ
 y-file = unhex "010004 110001 79"
 
--- the bytes left at the place k differ
-differ : (k : ℕ) (o o′ : Result ℕ × List ℕ) {b b′ : Result ℕ} {r : List ℕ} → (b, r) ≡ o → (b′, r) ≡ o′ → getD (o .1) k 0 ≡ 120 → getD (o′ .1) k 0 ≡ 121 → ⊥
-differ k o o′ e e′ x y = omega (arith, ap (λ o. getD (o .1) k 0) e, ap (λ o. getD (o .1) k 0) e′)
+-- where the text stands in the page
+abbrev spot : Page → ℕ
+spot plain-page = 0
+spot html-body = 57
+spot html-document = 1_050
 
-pub plain-not-fixed : (r : List ℕ) (a b : Answer) → (said a, r) ≡ plain-outcome x-file (replicate 1 0) → (said b, r) ≡ plain-outcome y-file (replicate 1 0) → ⊥
-unfolding all-open x-file y-file
-plain-not-fixed r a b e e′ = differ 0 (plain-outcome x-file (replicate 1 0)) (plain-outcome y-file (replicate 1 0)) e e′ refl refl
+-- a page for one byte of text
+abbrev one-longer : Page → List ℕ
+one-longer k = replicate (room k + 1) 0
 
-pub body-not-fixed : (r : List ℕ) (a b : Answer) → (said a, r) ≡ body-outcome x-file (replicate 64 0) → (said b, r) ≡ body-outcome y-file (replicate 64 0) → ⊥
+texts-stand : (k : Page) → (getD (outcome-of k x-file (one-longer k) .1) (spot k) 0 ≡ 120) × (getD (outcome-of k y-file (one-longer k) .1) (spot k) 0 ≡ 121)
 unfolding all-open x-file y-file
-body-not-fixed r a b e e′ = differ 57 (body-outcome x-file (replicate 64 0)) (body-outcome y-file (replicate 64 0)) e e′ refl refl
+texts-stand plain-page = (refl, refl)
+texts-stand html-body = (refl, refl)
+texts-stand html-document = (refl, refl)
 
-pub document-not-fixed : (r : List ℕ) (a b : Answer) → (said a, r) ≡ document-outcome x-file (replicate 1_073 0)
-    → (said b, r) ≡ document-outcome y-file (replicate 1_073 0) → ⊥
-unfolding all-open x-file y-file
-document-not-fixed r a b e e′ = differ 1_050 (document-outcome x-file (replicate 1_073 0)) (document-outcome y-file (replicate 1_073 0)) e e′ refl refl
+pub page-not-fixed : (k : Page) (r : List ℕ) (a b : Answer) → (said a, r) ≡ outcome-of k x-file (one-longer k) → (said b, r) ≡ outcome-of k y-file (one-longer k) → ⊥
+page-not-fixed k r a b e e′ = omega (arith, texts-stand k, ap (λ o. getD (o .1) (spot k) 0) e, ap (λ o. getD (o .1) (spot k) 0) e′)
 
 -- ---- 3. A LAYOUT THAT CHANGES NO TAG: P2's file is not left as it was at width 6; the tag at 8 becomes 3
 

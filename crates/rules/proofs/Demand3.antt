@@ -1,150 +1,128 @@
--- Demand 3 on the rules. Two accepted files that are equal but for bytes inside texts, newlines at the same places: layout changes the same
--- tags and leaves such files again, and ONE list of page bytes, a function of the masked file, gives both plain pages; for HTML with & and < at
--- the same places. In the list a byte is made, or copied from a place of the file.
-use mathlib.Core.Path.{_≡_, refl, sym, _∙_, ap, ap₂, fun-ext, subst}
-use mathlib.Core.List.{List, [], _∷_}
-use mathlib.Core.Bool.{Bool, true, false, _||_}
-use Prim.Native.Nat.{ℕ, zero, suc, _<_}
+-- Demand 3 on the rules. Two accepted files that are equal but for bytes inside texts, newlines at the same places, are one tree over places filled
+-- in two ways. So layout changes the same tags and leaves such files again, and one list of page bytes gives both plain pages; for HTML with & and
+-- < at the same places.
+use mathlib.Core.Path.{_≡_, refl, sym, _∙_, ap, ap₂, fun-ext}
+use mathlib.Core.List.{List, [], _∷_, map}
+use mathlib.Core.Bool.{Bool, true, false}
+use mathlib.Core.Logic.{inl, ⊎-elim}
+use Prim.Native.Nat.{ℕ, suc, _≤_, _<_}
 use native.Mathlib.Nat.{zero-add}
 use native.Mathlib.Omega.{arith}
-use lib.Dec.{eqb}
-use lib.ListN.{length, getD}
+use lib.Dec.{leb, eqb}
+use lib.ListN.{length, getD, List·getD-eq-default}
+use borrow.Author.Tests.{leb-true, leb-false, le-leb}
 use Rattle.rules.specs.Bytes.{if_then_else_, has, newline}
-use Rattle.rules.specs.Result.{Result, refused, accepted, _>>=_, _>>_}
-use Rattle.rules.specs.Tree.{Frag, stop}
-use Rattle.rules.specs.Encode.{encode}
+use Rattle.rules.specs.Result.{accepted, refused, _>>=_, _>>_, need}
+use Rattle.rules.specs.Walk.{check, content}
+use Rattle.rules.specs.Tree.{Frag, frag-of, read}
+use Rattle.rules.specs.Encode.{frag-fields, encode}
 use Rattle.rules.specs.Layout.{layout}
 use Rattle.rules.specs.Lines.{Out, made, copied}
 use Rattle.rules.specs.Plain.{plain, fill}
-use Rattle.rules.specs.Html.{escape, body, document}
+use Rattle.rules.specs.Html.{ampersand, less-than, as-it-is, escape, body, document}
 use Rattle.rules.specs.Good.{Bytes}
-use Rattle.rules.specs.Answers.{itself, tree, changed, plain-text, body-text, document-text}
-use Rattle.rules.specs.Mask.{text-places, Byte-alike, Alike, newlines, newlines-and-escapes, mask-byte, mask-bytes, mask}
+use Rattle.rules.specs.Answers.{itself, tree, check-answer, laid-out, changed, left-laid, layout-outcome, written, left-page, plain-text, plain-outcome, body-text, body-outcome, document-text, document-outcome}
+use Rattle.rules.specs.Mask.{in-texts, accepted-texts, text-places, Byte-alike, Alike}
+use Rattle.rules.specs.Alike.{AlikeFiles, SameLayout, Page, plain-page, html-body, html-document, outcome-of, kept, shown, at, places, place-tree, page-list, OneList}
 use Rattle.rules.proofs.Maps.{map-frag}
-use Rattle.rules.proofs.Files.{tree-read, good-check}
+use Rattle.rules.proofs.Files.{Read, tree-read, good-check}
 use Rattle.rules.proofs.Laid.{layout-laid}
-use Rattle.rules.proofs.LaidFile.{layout-length, layout-good}
+use Rattle.rules.proofs.LaidFile.{layout-good, layout-read}
 use Rattle.rules.proofs.LayoutMap.{layout-map}
-use Rattle.rules.proofs.PageMap.{fill-map, plain-map, body-map, document-map}
-use Rattle.rules.proofs.Changed.{three-at, turned-at}
+use Rattle.rules.proofs.PageMap.{fill-map}
+use Rattle.rules.proofs.Changed.{Turns, turns-length, changed-same, three-at, turned-at}
 use Rattle.rules.proofs.Turned.{layout-turns}
-use Rattle.rules.proofs.Places.{at, place-frag, placed}
-use Rattle.rules.proofs.Masked.{Ascii, mask-read}
-use Rattle.rules.proofs.AlikeMask.{alike-mask, places-of-read}
-use Rattle.rules.proofs.Filled.{same-changed, laid-texts, mask-place}
+use Rattle.rules.proofs.Reread.{read-same}
+use Rattle.rules.proofs.Places.{placed, like-places, shown-map, list-below}
+use Rattle.rules.proofs.Masked.{file-and-mask}
+use Rattle.rules.proofs.Filled.{same-changed, laid-texts}
 
--- ---- the lists: functions of the masked file alone
+-- ---- one tree
 
--- a file's tree over its places
-unfoldable pub places-tree : Result (Frag ℕ) → Frag ℕ
-places-tree (refused n p) = stop
-places-tree (accepted t) = place-frag 0 t
+-- a tree over places, from which both files' trees are filled
+record OneTree (s s′ : List ℕ) : Type 0 where
+  over : Frag ℕ
+  read : place-tree s ≡ accepted over
+  read′ : place-tree s′ ≡ accepted over
+  filled : tree s ≡ accepted (map-frag (at s) over)
+  filled′ : tree s′ ≡ accepted (map-frag (at s′) over)
 
-unfoldable pub plain-list : (masked : List ℕ) → List (Out ℕ)
-plain-list m = plain (λ p. newline (at m p)) (places-tree (tree m))
+one-tree : {kept s s′ : List ℕ} → AlikeFiles kept s s′ → OneTree s s′
+unfolding place-tree read _>>=_
+one-tree {kept} {s} {s′} F =
+    let P = placed s (F .bytes) (F .passes) in
+    let P′ = placed s′ (F .bytes′) (F .passes′) in
+    let Q : Bool → ℕ → Type 0 = λ m p. Byte-alike kept m (at s p) (at s′ p) in
+    let L = like-places Q (λ p q. q) (text-places s) 0 (length s) (λ k l. rw zero-add (F .alike .at k l)) in
+    let n : length s′ ≡ length s = sym (F .alike .same-length) in
+    let c : check content (at s′) (places 0 (length s)) ≡ accepted (P′ .fields) = rw n at (P′ .checked) in
+    let same : read content (at s) (places 0 (length s)) ≡ read content (at s′) (places 0 (length s)) =
+    read-same content (at s) (at s′) Q (λ p q. q) (places 0 (length s)) (P .fields) (P .checked) (P .good) (inl (P′ .fields, c)) (rw (P .texts) at L) in
+    let r : read content (at s) (places 0 (length s)) ≡ accepted (frag-of (at s) (P .fields)) = rw (P .checked) in
+    let r′ : read content (at s′) (places 0 (length s′)) ≡ accepted (frag-of (at s) (P .fields)) = rw n (sym same ∙ r) in
+    let q′ : read content (at s′) (places 0 (length s′)) ≡ accepted (frag-of (at s′) (P′ .fields)) = rw (P′ .checked) in
+    let e : frag-of (at s′) (P′ .fields) ≡ frag-of (at s) (P .fields) = cc in
+    record { over = frag-of (at s) (P .fields); read = r; read′ = r′; filled = P .through; filled′ = P′ .through ∙ ap (λ t. accepted (map-frag (at s′) t)) e }
 
-unfoldable pub body-list : (masked : List ℕ) → List (Out ℕ)
-body-list m = body (λ p. escape (at m p)) (λ p. newline (at m p)) (places-tree (tree m))
+-- ---- what kept bytes show
 
-unfoldable pub document-list : (masked : List ℕ) → List (Out ℕ)
-document-list m = document (λ p. escape (at m p)) (λ p. newline (at m p)) (places-tree (tree m))
+-- bytes that are alike as far as the kept ones go are alike by the test q
+abbrev Shows : {A : Type 0} → (kept : List ℕ) → (ℕ → A) → Type 0
+Shows kept q = (a b : ℕ) → map (λ k. eqb a k) kept ≡ map (λ k. eqb b k) kept → q a ≡ q b
 
--- ---- what a mask shows
+newline-shown : (k : Page) → Shows (kept k) newline
+unfolding newline
+newline-shown plain-page a b e = cc
+newline-shown html-body a b e = cc
+newline-shown html-document a b e = cc
 
--- the test q sees through the mask
-abbrev pub Sees : {A : Type 0} → (kept : List ℕ) → (ℕ → A) → Type 0
-Sees kept q = (b : ℕ) → q (mask-byte kept true b) ≡ q b
+escape-shown : Shows (kept html-body) escape
+unfolding escape
+escape-shown a b e =
+    let f : eqb a 38 ≡ eqb b 38 = cc in
+    let g : eqb a 60 ≡ eqb b 60 = cc in
+    ap₂ (λ f g. if f then ampersand else if g then less-than else as-it-is) f g
 
-sees-at : {A : Type 0} (kept : List ℕ) (q : ℕ → A) → Sees kept q → (ms : List Bool) (s : List ℕ) (p : ℕ) → q (at (mask-bytes kept ms s) p) ≡ q (at s p)
-unfolding mask-bytes mask-byte
-sees-at kept q S [] s p = refl
-sees-at kept q S (m ∷ ms) [] p = refl
-sees-at kept q S (true ∷ ms) (b ∷ s) zero = S b
-sees-at kept q S (false ∷ ms) (b ∷ s) zero = refl
-sees-at kept q S (m ∷ ms) (b ∷ s) (suc p) = sees-at kept q S ms s p
-
-sees : {A : Type 0} (kept : List ℕ) (q : ℕ → A) → Sees kept q → (s : List ℕ) → _≡_ {A = ℕ → A} (λ p. q (at (mask kept s) p)) (λ p. q (at s p))
-unfolding mask
-sees kept q S s = fun-ext (λ p. sees-at kept q S (text-places s) s p)
-
-pub newline-seen : Sees newlines newline
-unfolding mask-byte has newline
-newline-seen b = go (eqb b 10) refl
+-- so the places of two alike files are alike by it
+seen : {A : Type 0} {kept s s′ : List ℕ} (q : ℕ → A) → Shows kept q → Alike kept s s′ → _≡_ {A = ℕ → A} (λ p. q (at s p)) (λ p. q (at s′ p))
+seen {kept = kept} {s} {s′} q S A = fun-ext (λ p. go p (leb (length s) p) refl)
   where
-    go : (e : Bool) → e ≡ eqb b 10 → eqb (if e || false then b else 120) 10 ≡ eqb b 10
-    go true q = refl
-    go false q = q
+    within : (p : ℕ) (m : Bool) → Byte-alike kept m (at s p) (at s′ p) → q (at s p) ≡ q (at s′ p)
+    within p true e = S (at s p) (at s′ p) e
+    within p false e = ap q e
 
-pub newline-seen-in-html : Sees newlines-and-escapes newline
-unfolding mask-byte has newline
-newline-seen-in-html b = go (eqb b 10) (eqb b 38) (eqb b 60) refl
-  where
-    go : (e f g : Bool) → e ≡ eqb b 10 → eqb (if e || (f || (g || false)) then b else 120) 10 ≡ eqb b 10
-    go true f g q = refl
-    go false true g q = refl
-    go false false true q = refl
-    go false false false q = q
+    go : (p : ℕ) (b : Bool) → leb (length s) p ≡ b → q (at s p) ≡ q (at s′ p)
+    go p true e =
+        let l : length s ≤ p = leb-true _ _ e in
+        ap q (List·getD-eq-default s 0 l ∙ sym (List·getD-eq-default s′ 0 (omega (arith, A .same-length))))
+    go p false e = within p (getD (text-places s) p false) (A .at p (leb-false _ _ e))
 
-pub escape-seen : Sees newlines-and-escapes escape
-unfolding mask-byte has escape
-escape-seen b = go (eqb b 10) (eqb b 38) (eqb b 60) refl refl
-  where
-    go : (e f g : Bool) → f ≡ eqb b 38 → g ≡ eqb b 60 → escape (if e || (f || (g || false)) then b else 120) ≡ escape b
-    go true f g x y = refl
-    go false true g x y = refl
-    go false false true x y = refl
-    go false false false x y = simp (sym x, sym y)
+-- ---- pages
 
-pub newlines-ascii : Ascii newlines
-newlines-ascii = omega arith
+-- what a page's entry answers and leaves, whichever page it is
+pub by-kind : (k : Page) (s q : List ℕ) → outcome-of k s q ≡ left-page (tree s >>= (λ t. accepted (fill itself (shown k escape newline t)))) q
+unfolding plain-outcome plain-text body-outcome body-text document-outcome document-text
+by-kind plain-page s q = refl
+by-kind html-body s q = refl
+by-kind html-document s q = refl
 
-pub escapes-ascii : Ascii newlines-and-escapes
-escapes-ascii = omega arith
+page-left : (k : Page) (s q : List ℕ) (t : Frag ℕ) → tree s ≡ accepted t → outcome-of k s q ≡ left-page (accepted (fill itself (shown k escape newline t))) q
+unfolding _>>=_
+page-left k s q t e = by-kind k s q ∙ ap (λ r. left-page (r >>= (λ t. accepted (fill itself (shown k escape newline t)))) q) e
 
--- ---- a page is its list, filled from its own file
+page-filled : (k : Page) (s : List ℕ) (t : Frag ℕ) → fill itself (shown k escape newline (map-frag (at s) t)) ≡ fill (at s) (shown k (λ p. escape (at s p)) (λ p. newline (at s p)) t)
+page-filled k s t = ap (fill itself) (shown-map k (at s) escape newline t) ∙ fill-map (at s) itself (shown k (λ p. escape (at s p)) (λ p. newline (at s p)) t)
 
-module _ (kept s : List ℕ) (t : Frag ℕ) (A : Ascii kept) (bs : Bytes s) (e : tree s ≡ accepted t) where
-  read-through : map-frag (at s) (place-frag 0 t) ≡ t
-  read-through = placed s t (tree-read s t bs e .encodes)
+shown-same : (k : Page) {s s′ : List ℕ} → Alike (kept k) s s′ → (t : Frag ℕ)
+    → shown k (λ p. escape (at s p)) (λ p. newline (at s p)) t ≡ shown k (λ p. escape (at s′ p)) (λ p. newline (at s′ p)) t
+shown-same plain-page A t = ap (λ n. plain n t) (seen newline (newline-shown plain-page) A)
+shown-same html-body A t = λ i. body (seen escape escape-shown A i) (seen newline (newline-shown html-body) A i) t
+shown-same html-document A t = λ i. document (seen escape escape-shown A i) (seen newline (newline-shown html-document) A i) t
 
-  mask-places : places-tree (tree (mask kept s)) ≡ place-frag 0 t
-  unfolding places-tree
-  mask-places = ap places-tree (mask-read kept A s t bs e) ∙ mask-place kept 0 t
-
-  pub plain-filled : Sees kept newline → fill (at s) (plain-list (mask kept s)) ≡ fill itself (plain newline t)
-  unfolding plain-list
-  plain-filled S =
-      ap₂ (λ (n : ℕ → Bool) (u : Frag ℕ). fill (at s) (plain n u)) (sees kept newline S s) mask-places
-      ∙ sym (fill-map (at s) itself (plain (λ p. newline (at s p)) (place-frag 0 t))) ∙ ap (fill itself) (sym (plain-map (at s) newline (place-frag 0 t)))
-      ∙ ap (λ (u : Frag ℕ). fill itself (plain newline u)) read-through
-
-  pub body-filled : Sees kept newline → Sees kept escape → fill (at s) (body-list (mask kept s)) ≡ fill itself (body escape newline t)
-  unfolding body-list
-  body-filled S E =
-      (λ i. fill (at s) (body (sees kept escape E s i) (sees kept newline S s i) (mask-places i)))
-      ∙ sym (fill-map (at s) itself (body (λ p. escape (at s p)) (λ p. newline (at s p)) (place-frag 0 t)))
-      ∙ ap (fill itself) (sym (body-map (at s) escape newline (place-frag 0 t)))
-      ∙ ap (λ (u : Frag ℕ). fill itself (body escape newline u)) read-through
-
-  pub document-filled : Sees kept newline → Sees kept escape → fill (at s) (document-list (mask kept s)) ≡ fill itself (document escape newline t)
-  unfolding document-list
-  document-filled S E =
-      (λ i. fill (at s) (document (sees kept escape E s i) (sees kept newline S s i) (mask-places i)))
-      ∙ sym (fill-map (at s) itself (document (λ p. escape (at s p)) (λ p. newline (at s p)) (place-frag 0 t)))
-      ∙ ap (fill itself) (sym (document-map (at s) escape newline (place-frag 0 t)))
-      ∙ ap (λ (u : Frag ℕ). fill itself (document escape newline u)) read-through
-
--- ---- pages of two files that are alike
-
--- two accepted files that are alike, with their trees
-pub record Pair (kept s s′ : List ℕ) : Type 0 where
-  pub t : Frag ℕ
-  pub t′ : Frag ℕ
-  pub bytes : Bytes s
-  pub bytes′ : Bytes s′
-  pub read : tree s ≡ accepted t
-  pub read′ : tree s′ ≡ accepted t′
-  pub alike : Alike kept s s′
+-- ALIKE FILES HAVE ONE LIST
+same-list : (k : Page) {s s′ : List ℕ} → AlikeFiles (kept k) s s′ → page-list k s ≡ page-list k s′
+unfolding page-list _>>=_
+same-list k F = let T = one-tree F in rw (T .read, T .read′) (ap accepted (shown-same k (F .alike) (T .over)))
 
 pub fill-length : {X : Type 0} (byte : X → ℕ) (os : List (Out X)) → length (fill byte os) ≡ length os
 unfolding fill
@@ -152,135 +130,145 @@ fill-length byte [] = refl
 fill-length byte (made b ∷ os) = ap suc (fill-length byte os)
 fill-length byte (copied x ∷ os) = ap suc (fill-length byte os)
 
-one-mask : {kept s s′ : List ℕ} (P : Pair kept s s′) → mask kept s ≡ mask kept s′
-one-mask {kept} {s} {s′} P = alike-mask kept s s′ (P .t) (P .t′) (P .bytes) (P .bytes′) (P .read) (P .read′) (P .alike) .1
+-- the answer is the text's length, and whether it fits
+left-answer : (x q : List ℕ) → left-page (accepted x) q .0 ≡ (if leb (length x) (length q) then accepted (length x) else refused 10 (length x))
+unfolding left-page written
+left-answer x q = go (leb (length x) (length q))
+  where
+    go : (fits : Bool) → written fits x q .0 ≡ (if fits then accepted (length x) else refused 10 (length x))
+    go true = refl
+    go false = refl
 
--- ONE LIST GIVES BOTH PLAIN PAGES
-pub one-plain-list : (s s′ : List ℕ) → Pair newlines s s′
-    → (plain-text s ≡ accepted (fill (at s) (plain-list (mask newlines s)))) × (plain-text s′ ≡ accepted (fill (at s′) (plain-list (mask newlines s))))
-unfolding plain-text _>>=_
-one-plain-list s s′ P =
-    let f = plain-filled newlines s (P .t) newlines-ascii (P .bytes) (P .read) newline-seen in
-    let f′ = plain-filled newlines s′ (P .t′) newlines-ascii (P .bytes′) (P .read′) newline-seen in (
-      simp (P .read) (ap accepted (sym f)),
-      simp (P .read′) (ap accepted (sym f′ ∙ ap (λ (m : List ℕ). fill (at s′) (plain-list m)) (sym (one-mask P)))),
-    )
+-- ONE LIST GIVES BOTH PAGES
+pub one-list : (k : Page) (s s′ q q′ : List ℕ) → AlikeFiles (kept k) s s′ → length q ≡ length q′ → OneList k s s′ q q′ (outcome-of k s q) (outcome-of k s′ q′)
+unfolding page-list _>>=_
+one-list k s s′ q q′ F m =
+    let T = one-tree F in
+    let os : List (Out ℕ) = shown k (λ p. escape (at s p)) (λ p. newline (at s p)) (T .over) in
+    let l : page-list k s ≡ accepted os = rw (T .read) in
+    let l′ = sym (same-list k F) ∙ l in
+    let o : outcome-of k s q ≡ left-page (accepted (fill (at s) os)) q = page-left k s q _ (T .filled) ∙ ap (λ x. left-page (accepted x) q) (page-filled k s (T .over)) in
+    let o′ : outcome-of k s′ q′ ≡ left-page (accepted (fill (at s′) os)) q′ =
+    page-left k s′ q′ _ (T .filled′) ∙ ap (λ x. left-page (accepted x) q′) (page-filled k s′ (T .over) ∙ ap (fill (at s′)) (sym (shown-same k (F .alike) (T .over)))) in
+    record {
+      same-answer = rw (o, o′, left-answer (fill (at s) os) q, left-answer (fill (at s′) os) q′, fill-length (at s) os, fill-length (at s′) os, m);
+      list = os;
+      of-files = (l, l′);
+      of-masks = (sym (same-list k (file-and-mask k s (F .bytes) (F .passes))) ∙ l, sym (same-list k (file-and-mask k s′ (F .bytes′) (F .passes′))) ∙ l′);
+      below = list-below k s _ _ (T .over) (T .read);
+      left = o;
+      left′ = o′;
+    }
 
--- FOR HTML TOO WHERE & AND < STAND ALIKE
-pub one-body-list : (s s′ : List ℕ) → Pair newlines-and-escapes s s′
-    → (body-text s ≡ accepted (fill (at s) (body-list (mask newlines-and-escapes s))))
-    × (body-text s′ ≡ accepted (fill (at s′) (body-list (mask newlines-and-escapes s))))
-unfolding body-text _>>=_
-one-body-list s s′ P =
-    let f = body-filled newlines-and-escapes s (P .t) escapes-ascii (P .bytes) (P .read) newline-seen-in-html escape-seen in
-    let f′ = body-filled newlines-and-escapes s′ (P .t′) escapes-ascii (P .bytes′) (P .read′) newline-seen-in-html escape-seen in (
-      simp (P .read) (ap accepted (sym f)),
-      simp (P .read′) (ap accepted (sym f′ ∙ ap (λ (m : List ℕ). fill (at s′) (body-list m)) (sym (one-mask P)))),
-    )
+-- ---- what layout leaves of one file
 
-pub one-document-list : (s s′ : List ℕ) → Pair newlines-and-escapes s s′
-    → (document-text s ≡ accepted (fill (at s) (document-list (mask newlines-and-escapes s))))
-    × (document-text s′ ≡ accepted (fill (at s′) (document-list (mask newlines-and-escapes s))))
-unfolding document-text _>>=_
-one-document-list s s′ P =
-    let f = document-filled newlines-and-escapes s (P .t) escapes-ascii (P .bytes) (P .read) newline-seen-in-html escape-seen in
-    let f′ = document-filled newlines-and-escapes s′ (P .t′) escapes-ascii (P .bytes′) (P .read′) newline-seen-in-html escape-seen in (
-      simp (P .read) (ap accepted (sym f)),
-      simp (P .read′) (ap accepted (sym f′ ∙ ap (λ (m : List ℕ). fill (at s′) (document-list m)) (sym (one-mask P)))),
-    )
+-- bytes of which a 4 became a 3 are bytes
+turned-bytes : (s u : List ℕ) → Turns s u → Bytes s → Bytes u
+turned-bytes [] [] x b = tt
+turned-bytes [] (y ∷ u) x b = absurd x
+turned-bytes (a ∷ s) [] x b = absurd x
+turned-bytes (a ∷ s) (y ∷ u) x b = (⊎-elim (λ (e : a ≡ y). omega arith) (λ h. omega arith) (x .0), turned-bytes s u (x .1) (b .1))
 
--- ---- layout of two files that are alike
+texts-of-read : {s : List ℕ} {t : Frag ℕ} → Read s t → text-places s ≡ in-texts (frag-fields t)
+unfolding text-places accepted-texts
+texts-of-read R = ap accepted-texts (R .checked)
 
-module _ (kept s s′ : List ℕ) (A : Ascii kept) (S : Sees kept newline) (P : Pair kept s s′) (w : ℕ) where
-  abbrev nl : ℕ → Bool
-  nl p = newline (at s p)
-
-  same-newlines : _≡_ {A = ℕ → Bool} nl (λ p. newline (at s′ p))
-  same-newlines = sym (sees kept newline S s) ∙ ap (λ (m : List ℕ). λ (p : ℕ). newline (at m p)) (one-mask P) ∙ sees kept newline S s′
-
-  same-places : place-frag 0 (P .t) ≡ place-frag 0 (P .t′)
-  same-places =
-      sym (mask-places kept s (P .t) A (P .bytes) (P .read)) ∙ ap (λ (m : List ℕ). places-tree (tree m)) (one-mask P)
-      ∙ mask-places kept s′ (P .t′) A (P .bytes′) (P .read′)
-
-  abbrev T : Frag ℕ
-  T = place-frag 0 (P .t)
-
-  -- both files and both laid out ones are fillings of two trees over places
-  before : map-frag (at s) T ≡ P .t
-  before = read-through kept s (P .t) A (P .bytes) (P .read)
-
-  before′ : map-frag (at s′) T ≡ P .t′
-  before′ = ap (map-frag (at s′)) same-places ∙ read-through kept s′ (P .t′) A (P .bytes′) (P .read′)
-
-  after : map-frag (at s) (layout nl w T) ≡ layout newline w (P .t)
-  after = sym (layout-map (at s) newline w T) ∙ ap (layout newline w) before
-
-  after′ : map-frag (at s′) (layout nl w T) ≡ layout newline w (P .t′)
-  after′ =
-      ap (λ (n : ℕ → Bool). map-frag (at s′) (layout n w T)) same-newlines
-      ∙ sym (layout-map (at s′) newline w T) ∙ ap (layout newline w) before′
-
+module _ (w : ℕ) (s : List ℕ) (t : Frag ℕ) (bs : Bytes s) (e : tree s ≡ accepted t) where
   abbrev laid : List ℕ
-  laid = encode (layout newline w (P .t))
+  laid = encode (layout newline w t)
 
-  abbrev laid′ : List ℕ
-  laid′ = encode (layout newline w (P .t′))
-
-  -- THE SAME TAGS CHANGE
-  pub same-tags : changed 0 s laid ≡ changed 0 s′ laid′
-  same-tags =
-      ap₂ (λ (x y : List ℕ). changed 0 x y) (sym (tree-read s (P .t) (P .bytes) (P .read) .encodes) ∙ ap encode (sym before)) (ap encode (sym after))
-      ∙ same-changed (at s) (at s′) (layout-laid nl w T)
-      ∙ ap₂ (λ (x y : List ℕ). changed 0 x y) (ap encode before′ ∙ tree-read s′ (P .t′) (P .bytes′) (P .read′) .encodes) (ap encode after′)
-
-  -- what layout leaves is alike again
+  turns : Turns s laid
+  turns = rw (tree-read s t bs e .encodes) at (layout-turns newline w t)
 
   turned-byte : (k : ℕ) → k < length s → at laid k ≡ three-at (has k (changed 0 s laid)) (at s k)
-  turned-byte k l =
-      let e : encode (P .t) ≡ s = tree-read s (P .t) (P .bytes) (P .read) .encodes in
-      subst (λ (n : ℕ). at laid k ≡ three-at (has n (changed 0 s laid)) (at s k)) (zero-add k)
-      (turned-at 0 k s laid l (rw e at (layout-turns newline w (P .t))))
-
-  turned-byte′ : (k : ℕ) → k < length s′ → at laid′ k ≡ three-at (has k (changed 0 s′ laid′)) (at s′ k)
-  turned-byte′ k l =
-      let e : encode (P .t′) ≡ s′ = tree-read s′ (P .t′) (P .bytes′) (P .read′) .encodes in
-      subst (λ (n : ℕ). at laid′ k ≡ three-at (has n (changed 0 s′ laid′)) (at s′ k)) (zero-add k)
-      (turned-at 0 k s′ laid′ l (rw e at (layout-turns newline w (P .t′))))
+  turned-byte k l = rw zero-add at (turned-at 0 k s laid l turns)
 
   laid-places : text-places laid ≡ text-places s
   laid-places =
-      let R = tree-read s (P .t) (P .bytes) (P .read) in
-      let G = layout-good newline w (P .t) (R .good) in
-      places-of-read kept laid (layout newline w (P .t)) (record { checked = good-check _ G; encodes = refl; good = G })
-      ∙ sym (laid-texts (layout-laid newline w (P .t))) ∙ sym (places-of-read kept s (P .t) R)
+      let R = tree-read s t bs e in
+      let G = layout-good newline w t (R .good) in
+      texts-of-read (record { checked = good-check _ G; encodes = refl; good = G }) ∙ sym (laid-texts (layout-laid newline w t)) ∙ sym (texts-of-read R)
 
-  laid-length : length laid ≡ length s
-  laid-length = layout-length newline w (P .t) ∙ ap length (tree-read s (P .t) (P .bytes) (P .read) .encodes)
+  laid-passes : check-answer laid ≡ accepted 0
+  unfolding check-answer _>>=_
+  laid-passes = rw (layout-read newline w s t bs e)
 
-  laid-length′ : length laid′ ≡ length s′
-  laid-length′ = layout-length newline w (P .t′) ∙ ap length (tree-read s′ (P .t′) (P .bytes′) (P .read′) .encodes)
+  -- an accepted file is not too long, so that only the width can be refused
+  laid-by-width : layout-outcome w s ≡ left-laid s (need (leb w 6_553) 2 0 >> accepted (layout newline w t))
+  unfolding layout-outcome laid-out need _>>_ _>>=_
+  laid-by-width =
+      let R = tree-read s t bs e in
+      let short : length s ≤ 60_000 = rw (R .encodes) at (R .good .short) in
+      rw (le-leb (length s) 60_000 short, e)
 
-  three-alike : (c m : Bool) (a b : ℕ) → Byte-alike kept m a b → Byte-alike kept m (three-at c a) (three-at c b)
-  three-alike true true a b h = refl
-  three-alike true false a b h = refl
-  three-alike false true a b h = h
-  three-alike false false a b h = h
+-- ---- and of two that are alike
 
-  byte-alike : (m : Bool) {a a₂ b b₂ : ℕ} → a₂ ≡ a → b₂ ≡ b → Byte-alike kept m a b → Byte-alike kept m a₂ b₂
-  byte-alike m {a} {a₂} {b} {b₂} p q h = subst (λ (x : ℕ). Byte-alike kept m x b₂) (sym p) (subst (λ (y : ℕ). Byte-alike kept m a y) (sym q) h)
+three-alike : (kept : List ℕ) (c m : Bool) (a b : ℕ) → Byte-alike kept m a b → Byte-alike kept m (three-at c a) (three-at c b)
+three-alike kept true true a b h = refl
+three-alike kept true false a b h = refl
+three-alike kept false true a b h = h
+three-alike kept false false a b h = h
+
+module _ (kept : List ℕ) (S : Shows kept newline) (w : ℕ) (s s′ : List ℕ) (F : AlikeFiles kept s s′) where
+  abbrev T : OneTree s s′
+  T = one-tree F
+
+  abbrev t : Frag ℕ
+  t = map-frag (at s) (T .over)
+
+  abbrev t′ : Frag ℕ
+  t′ = map-frag (at s′) (T .over)
+
+  abbrev u : List ℕ
+  u = laid w s t (F .bytes) (T .filled)
+
+  abbrev u′ : List ℕ
+  u′ = laid w s′ t′ (F .bytes′) (T .filled′)
+
+  -- THE SAME TAGS CHANGE: both files, and both laid out ones, are fillings of two trees over places
+  same-tags : changed 0 s u ≡ changed 0 s′ u′
+  same-tags =
+      let nl : ℕ → Bool = λ p. newline (at s p) in
+      let laid-by : (n : ℕ → Bool) (s : List ℕ) → _≡_ {A = ℕ → Bool} n (λ p. newline (at s p))
+      → layout newline w (map-frag (at s) (T .over)) ≡ map-frag (at s) (layout n w (T .over)) =
+      λ n s e. layout-map (at s) newline w (T .over) ∙ ap (λ n. map-frag (at s) (layout n w (T .over))) (sym e) in
+      ap₂ (changed 0) (sym (tree-read s t (F .bytes) (T .filled) .encodes)) (ap encode (laid-by nl s refl))
+      ∙ same-changed (at s) (at s′) (layout-laid nl w (T .over))
+      ∙ ap₂ (changed 0) (tree-read s′ t′ (F .bytes′) (T .filled′) .encodes) (ap encode (sym (laid-by nl s′ (seen newline S (F .alike)))))
 
   -- WHAT LAYOUT LEAVES IS ALIKE AGAIN
-  pub laid-alike : Alike kept laid laid′
+  laid-alike : Alike kept u u′
   laid-alike =
+      let n : length s ≡ length u = turns-length s u (turns w s t (F .bytes) (T .filled)) in
+      let n′ : length s′ ≡ length u′ = turns-length s′ u′ (turns w s′ t′ (F .bytes′) (T .filled′)) in
       record {
-        same-length = laid-length ∙ P .alike .same-length ∙ sym laid-length′;
+        same-length = sym n ∙ F .alike .same-length ∙ n′;
         at = λ k l.
-            let l₁ : k < length s = subst (λ (n : ℕ). k < n) laid-length l in
-            let l₂ : k < length s′ = subst (λ (n : ℕ). k < n) (P .alike .same-length) l₁ in
-            let h : Byte-alike kept (getD (text-places laid) k false) (at s k) (at s′ k) =
-            subst (λ (ms : List Bool). Byte-alike kept (getD ms k false) (at s k) (at s′ k)) (sym laid-places) (P .alike .at k l₁) in
-            byte-alike (getD (text-places laid) k false) (turned-byte k l₁)
-            (turned-byte′ k l₂ ∙ ap (λ (c : List ℕ). three-at (has k c) (at s′ k)) (sym same-tags))
-            (three-alike (has k (changed 0 s laid)) (getD (text-places laid) k false) (at s k) (at s′ k) h);
+            let l₁ : k < length s = rw (sym n) at l in
+            let l₂ : k < length s′ = rw (F .alike .same-length) at l₁ in
+            rw (laid-places w s t (F .bytes) (T .filled), turned-byte w s t (F .bytes) (T .filled) k l₁, turned-byte w s′ t′ (F .bytes′) (T .filled′) k l₂, sym same-tags)
+            (three-alike kept (has k (changed 0 s u)) (getD (text-places s) k false) (at s k) (at s′ k) (F .alike .at k l₁));
       }
+
+  -- by whether the width is accepted
+  laid-same : (fits : Bool) → SameLayout kept s s′ (left-laid s (need fits 2 0 >> accepted (layout newline w t))) (left-laid s′ (need fits 2 0 >> accepted (layout newline w t′)))
+  unfolding left-laid need _>>_
+  laid-same true =
+      record {
+        same-answer = ap (λ c. accepted (length c)) same-tags;
+        same-places = same-tags;
+        alike-again = record {
+          bytes = turned-bytes s u (turns w s t (F .bytes) (T .filled)) (F .bytes);
+          bytes′ = turned-bytes s′ u′ (turns w s′ t′ (F .bytes′) (T .filled′)) (F .bytes′);
+          passes = laid-passes w s t (F .bytes) (T .filled);
+          passes′ = laid-passes w s′ t′ (F .bytes′) (T .filled′);
+          alike = laid-alike;
+        };
+      }
+  laid-same false = record { same-answer = refl; same-places = changed-same 0 s ∙ sym (changed-same 0 s′); alike-again = F }
+
+-- LAYOUT ANSWERS BOTH ALIKE, CHANGES THE SAME PLACES AND LEAVES SUCH FILES
+pub same-layout : (k : Page) (w : ℕ) (s s′ : List ℕ) → AlikeFiles (kept k) s s′ → SameLayout (kept k) s s′ (layout-outcome w s) (layout-outcome w s′)
+same-layout k w s s′ F =
+    let T = one-tree F in
+    rw (laid-by-width w s _ (F .bytes) (T .filled), laid-by-width w s′ _ (F .bytes′) (T .filled′)) (laid-same (kept k) (newline-shown k) w s s′ F (leb w 6_553))

@@ -1,8 +1,8 @@
--- What does not depend on the bytes that stand in texts: lengths, places, and the tags that layout changes.
-use mathlib.Core.Path.{_≡_, refl, sym, _∙_, ap, ap₂}
+-- What does not depend on the bytes that fill a tree: lengths, the tags that layout changes, and where texts stand.
+use mathlib.Core.Path.{_≡_, refl, sym, _∙_, ap₂}
 use mathlib.Core.List.{List, [], _∷_, _++_, map}
 use mathlib.Core.Option.{Option, none, some}
-use mathlib.Core.Bool.{Bool, true, false}
+use mathlib.Core.Bool.{Bool, false}
 use Prim.Native.Nat.{ℕ, _+_}
 use native.Mathlib.Omega.{arith}
 use lib.Dec.{eqb}
@@ -11,15 +11,13 @@ use Rattle.rules.specs.Walk.{Fields}
 use Rattle.rules.specs.Tree.{Run, Leaf, text, anchor, space, force, if-block, Frag, stop, leaf, block, Frags, none-left, frag}
 use Rattle.rules.specs.Encode.{field, encode-fields, frag-fields, frags-fields, leaf-fields, run-fields, runs-fields, anchor-tag, block-tag, encode}
 use Rattle.rules.specs.Answers.{changed}
-use Rattle.rules.specs.Mask.{in-texts, mask-byte}
+use Rattle.rules.specs.Mask.{in-texts}
 use Rattle.rules.proofs.Typed.{fields-of-run}
 use Rattle.rules.proofs.Maps.{map-run, map-leaf, map-frag, map-frags}
 use Rattle.rules.proofs.Changed.{changed-same, changed-append}
 use Rattle.rules.proofs.Laid.{Laid, l-stop, l-leaf, l-block, Laids, l-none, l-frag}
 use Rattle.rules.proofs.LaidFile.{laid-length, laids-length}
 use Rattle.rules.proofs.Turned.{leaf-bytes, encode-leaf, changed-tag, changed-field}
-use Rattle.rules.proofs.Places.{style-length, range, place-run, place-runs, place-leaf, place-frag, place-frags}
-use Rattle.rules.proofs.Masked.{mask-run, mask-leaf, mask-frag, mask-frags}
 
 field-length : (t : ℕ) (v v′ : List ℕ) → length v ≡ length v′ → length (field t v) ≡ length (field t v′)
 unfolding field
@@ -147,65 +145,3 @@ mutual
   pub laids-texts : {t u : Frags ℕ} → Laids t u → in-texts (frags-fields t) ≡ in-texts (frags-fields u)
   laids-texts l-none = refl
   laids-texts (l-frag l ls) = ap₂ (λ (m n : List Bool). false ∷ false ∷ false ∷ (m ++ n)) (laid-texts l) (laids-texts ls)
-
--- ---- a masked tree has the same places
-
-module _ (kept : List ℕ) where
-  abbrev masked-chars : List ℕ → List ℕ
-  masked-chars v = map (mask-byte kept true) v
-
-  masked-chars-length : (v : List ℕ) → length (masked-chars v) ≡ length v
-  masked-chars-length v = length-map v (mask-byte kept true)
-
-  run-mask-length : (r : Run ℕ) → length (encode-fields (fields-of-run (mask-run kept r))) ≡ length (encode-fields (fields-of-run r))
-  run-mask-length r = run-fields-length (r .style) (masked-chars (r .chars)) (r .chars) (masked-chars-length (r .chars))
-
-  runs-mask-length : (rs : List (Run ℕ)) → length (encode-fields (runs-fields (map (mask-run kept) rs))) ≡ length (encode-fields (runs-fields rs))
-  unfolding runs-fields encode-fields
-  runs-mask-length [] = refl
-  runs-mask-length (r ∷ rs) = append-length (field 1 _) (field 1 _) _ _ (field-length 1 _ _ (run-mask-length r)) (runs-mask-length rs)
-
-  leaf-mask-length : (n : Leaf ℕ) → length (leaf-bytes (mask-leaf kept n)) ≡ length (leaf-bytes n)
-  unfolding leaf-bytes
-  leaf-mask-length (text r) = field-length 1 _ _ (run-mask-length r)
-  leaf-mask-length (anchor d a rs) = field-length 2 _ _ (append-length (field (anchor-tag d) a) (field (anchor-tag d) a) _ _ refl (runs-mask-length rs))
-  leaf-mask-length space = refl
-  leaf-mask-length force = refl
-  leaf-mask-length (if-block v) = field-length 7 _ _ (masked-chars-length v)
-
-  mutual
-    unfolding frag-fields encode-fields
-
-    frag-mask-length : (t : Frag ℕ) → length (encode-fields (frag-fields (mask-frag kept t))) ≡ length (encode-fields (frag-fields t))
-    frag-mask-length stop = refl
-    frag-mask-length (leaf n r) = rw (encode-leaf (mask-leaf kept n), encode-leaf n) (append-length (leaf-bytes (mask-leaf kept n)) (leaf-bytes n) _ _ (leaf-mask-length n) (frag-mask-length r))
-    frag-mask-length (block k fs r) = append-length (field (block-tag k) _) (field (block-tag k) _) _ _ (field-length (block-tag k) _ _ (frags-mask-length fs)) (frag-mask-length r)
-
-    frags-mask-length : (fs : Frags ℕ) → length (encode-fields (frags-fields (mask-frags kept fs))) ≡ length (encode-fields (frags-fields fs))
-    frags-mask-length none-left = refl
-    frags-mask-length (frag f fs) = append-length (field 8 _) (field 8 _) _ _ (field-length 8 _ _ (frag-mask-length f)) (frags-mask-length fs)
-
-  run-mask-place : (p : ℕ) (r : Run ℕ) → place-run p (mask-run kept r) ≡ place-run p r
-  run-mask-place p r = ap (λ (n : ℕ). record { style = r .style; chars = range (p + style-length (r .style) + 3) n }) (masked-chars-length (r .chars))
-
-  runs-mask-place : (p : ℕ) (rs : List (Run ℕ)) → place-runs p (map (mask-run kept) rs) ≡ place-runs p rs
-  runs-mask-place p [] = refl
-  runs-mask-place p (r ∷ rs) = λ i. run-mask-place (p + 3) r i ∷ runs-mask-place (p + 3 + run-mask-length r i) rs i
-
-  leaf-mask-place : (p : ℕ) (n : Leaf ℕ) → place-leaf p (mask-leaf kept n) ≡ place-leaf p n
-  leaf-mask-place p (text r) = ap text (run-mask-place (p + 3) r)
-  leaf-mask-place p (anchor d a rs) = ap (anchor d (range (p + 3 + 3) (length a))) (runs-mask-place (p + 3 + 3 + length a) rs)
-  leaf-mask-place p space = refl
-  leaf-mask-place p force = refl
-  leaf-mask-place p (if-block v) = ap (λ (n : ℕ). if-block (range (p + 3) n)) (masked-chars-length v)
-
-  mutual
-    -- A MASKED TREE HAS THE SAME PLACES
-    pub mask-place : (p : ℕ) (t : Frag ℕ) → place-frag p (mask-frag kept t) ≡ place-frag p t
-    mask-place p stop = refl
-    mask-place p (leaf n r) = λ i. leaf (leaf-mask-place p n i) (mask-place (p + leaf-mask-length n i) r i)
-    mask-place p (block k fs r) = λ i. block k (masks-place (p + 3) fs i) (mask-place (p + 3 + frags-mask-length fs i) r i)
-
-    masks-place : (p : ℕ) (fs : Frags ℕ) → place-frags p (mask-frags kept fs) ≡ place-frags p fs
-    masks-place p none-left = refl
-    masks-place p (frag f fs) = λ i. frag (mask-place (p + 3) f i) (masks-place (p + 3 + frag-mask-length f i) fs i)

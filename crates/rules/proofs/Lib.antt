@@ -1,5 +1,6 @@
 -- The theorems about document 01's rules.
 pub mod Open
+pub mod MaskExample
 pub mod Examples
 pub mod Chains
 pub mod Fuel
@@ -18,9 +19,9 @@ pub mod Laid
 pub mod LaidFile
 pub mod Changed
 pub mod Turned
+pub mod Reread
 pub mod Places
 pub mod Masked
-pub mod AlikeMask
 pub mod Filled
 pub mod Demand3
 pub mod Refused

@@ -17,6 +17,8 @@ use Rattle.rules.specs.Search.{nearest, prefers-lower, choice, at-places
 use Rattle.rules.specs.Sizes.{signed-decimal, opacity-text, total, below-zero, rounded, product-of, sum-of, em, em-text}
 use Rattle.rules.specs.Html.{separated, colour-css, weight-css, size-css, script, css, tag-name, attribute, open-tag, close-tag, escape, root, opening, closing, makes, copies, escaped, id-attribute, mark-html, item-html, items-html, body, scope, scoped, lines, style-element, before-body, after-body, document}
 use Rattle.rules.specs.Answers.{tree, check-answer, laid-out, changed, left-laid, layout-outcome, plain-text, body-text, document-text, written, left-page, plain-outcome, body-outcome, document-outcome}
+use Rattle.rules.specs.Mask.{is-text, in-texts, accepted-texts, text-places, mask-byte, mask-bytes, mask}
+use Rattle.rules.specs.Alike.{places, place-tree, page-list}
 use Rattle.rules.specs.Cases.{nibble, paired, still, pairs, unhex, print-at, answer, case, writes, leaves, nested, call, examples}
 use Rattle.rules.specs.Refusals.{answers, no, no-bytes, inside-blocks, refusals}
 
@@ -34,5 +36,6 @@ unfolding
     separated colour-css weight-css size-css script css tag-name attribute open-tag close-tag escape root opening closing makes copies escaped id-attribute mark-html item-html items-html body
     scope scoped lines style-element before-body after-body document
     tree check-answer laid-out changed left-laid layout-outcome plain-text body-text document-text written left-page plain-outcome body-outcome document-outcome
+    is-text in-texts accepted-texts text-places mask-byte mask-bytes mask places place-tree page-list
     nibble paired still pairs unhex print-at answer case writes leaves nested call examples answers no no-bytes inside-blocks refusals
 all-open = 0

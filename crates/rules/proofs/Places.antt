@@ -1,152 +1,126 @@
--- A tree over places: each byte of a text or an anchor replaced by its place in the file. Read through the file it is the tree again.
-use mathlib.Core.Path.{_≡_, refl, sym, _∙_, ap, ap₂}
-use mathlib.Core.List.{List, [], _∷_, _++_, map, append-assoc}
-use mathlib.Core.Option.{Option, none, some}
-use Prim.Native.Nat.{ℕ, zero, suc, _+_}
+-- A file read by its places: the tree over places, read through the file, is the file's tree, and a page's list copies from the file's places alone.
+use mathlib.Core.Path.{_≡_, refl, sym, _∙_, ap, ap₂, subst}
+use mathlib.Core.List.{List, [], _∷_, _++_, map}
+use mathlib.Core.Bool.{Bool, false}
+use Prim.Native.Nat.{ℕ, zero, suc, _+_, _<_, _≤_}
+use native.Mathlib.Nat.{zero-add, add-zero}
 use native.Mathlib.Omega.{arith}
-use lib.ListN.{length, getD, length-append}
-use lib.Seq.{getD-at}
-use Rattle.rules.specs.Walk.{Fields}
-use Rattle.rules.specs.Tree.{Run, Leaf, text, anchor, space, force, if-block, Frag, stop, leaf, block, Frags, none-left, frag}
-use Rattle.rules.specs.Encode.{field, encode-fields, frag-fields, frags-fields, run-fields, runs-fields, anchor-tag, block-tag, encode}
-use Rattle.rules.proofs.Typed.{fields-of-run}
-use Rattle.rules.proofs.Turned.{leaf-bytes, encode-leaf}
-use Rattle.rules.proofs.Maps.{map-run, map-leaf, map-frag, map-frags}
+use lib.ListN.{length, getD, replicate, length-map}
+use Rattle.rules.specs.Bytes.{newline}
+use Rattle.rules.specs.Result.{Result, refused, accepted}
+use Rattle.rules.specs.Walk.{Fields, end, bytes, inside, in-fragment, check, content}
+use Rattle.rules.specs.Tree.{Frag, map-fields, frag-of, read}
+use Rattle.rules.specs.Encode.{frag-fields}
+use Rattle.rules.specs.Good.{Bytes, Good}
+use Rattle.rules.specs.Lines.{Out, made, copied}
+use Rattle.rules.specs.Html.{Escape}
+use Rattle.rules.specs.Answers.{itself, tree, check-answer}
+use Rattle.rules.specs.Mask.{is-text, in-texts, accepted-texts, text-places}
+use Rattle.rules.specs.Alike.{Page, plain-page, html-body, html-document, shown, at, places, place-tree, Below}
+use Rattle.rules.proofs.Chains.{no-path, bind-inv}
+use Rattle.rules.proofs.Files.{tree-read, frag-back}
+use Rattle.rules.proofs.Maps.{map-frag, map-out}
+use Rattle.rules.proofs.LayoutMap.{old}
+use Rattle.rules.proofs.PageMap.{plain-map, old-look, body-map, document-map}
+use Rattle.rules.proofs.ReadMap.{map-result, check-map, frag-of-map, read-map}
+use Rattle.rules.proofs.Reread.{Like}
 
--- the byte of a file at a place
-abbrev pub at : List ℕ → ℕ → ℕ
-at s p = getD s p 0
+-- ---- a file through its places
 
--- n places from p on
-unfoldable pub range : (p n : ℕ) → List ℕ
-range p zero = []
-range p (suc n) = p ∷ range (suc p) n
+places-through : (f : ℕ → ℕ) (p : ℕ) (s : List ℕ) → ((k : ℕ) → f (p + k) ≡ at s k) → map f (places p (length s)) ≡ s
+unfolding places
+places-through f p [] h = refl
+places-through f p (x ∷ s) h =
+    ap₂ _∷_ (ap f (sym (add-zero p)) ∙ h 0) (places-through f (suc p) s (λ k. let q : suc p + k ≡ p + suc k = omega arith in ap f q ∙ h (suc k)))
 
--- ---- the tree over places: p is where the thing's first byte stands
+read-places : (s : List ℕ) → map (at s) (places 0 (length s)) ≡ s
+read-places s = places-through (at s) 0 s (λ k. ap (at s) (zero-add k))
 
-abbrev pub style-length : Option (Fields ℕ) → ℕ
-style-length none = 0
-style-length (some i) = 3 + length (encode-fields i)
+pub check-places : (s : List ℕ) → check content itself s ≡ map-result (map-fields (at s)) (check content (at s) (places 0 (length s)))
+check-places s = ap (check content itself) (sym (read-places s)) ∙ check-map content (at s) itself (places 0 (length s))
 
--- the value of a 1
-abbrev pub place-run : ℕ → Run ℕ → Run ℕ
-place-run p r = record { style = r .style; chars = range (p + style-length (r .style) + 3) (length (r .chars)) }
+map-texts : {X : Type 0} (f : X → ℕ) (i : Fields X) → in-texts (map-fields f i) ≡ in-texts i
+unfolding in-texts map-fields
+map-texts f end = refl
+map-texts f (bytes t v r) = λ j. false ∷ false ∷ false ∷ (replicate (length-map v f j) (is-text t) ++ map-texts f r j)
+map-texts f (inside t i r) = λ j. false ∷ false ∷ false ∷ (map-texts f i j ++ map-texts f r j)
 
--- fields 1 one after the other
-abbrev pub place-runs : ℕ → List (Run ℕ) → List (Run ℕ)
-place-runs p [] = []
-place-runs p (r ∷ rs) = place-run (p + 3) r ∷ place-runs (p + 3 + length (encode-fields (fields-of-run r))) rs
+-- what reading an accepted file by its places gives
+pub record Placed (s : List ℕ) : Type 0 where
+  pub fields : Fields ℕ
+  pub checked : check content (at s) (places 0 (length s)) ≡ accepted fields
+  pub texts : text-places s ≡ in-texts fields
+  pub good : Good in-fragment 0 0 (map-fields (at s) fields)
+  pub through : tree s ≡ accepted (map-frag (at s) (frag-of (at s) fields))
 
-abbrev pub place-leaf : ℕ → Leaf ℕ → Leaf ℕ
-place-leaf p (text r) = text (place-run (p + 3) r)
-place-leaf p (anchor d a rs) = anchor d (range (p + 3 + 3) (length a)) (place-runs (p + 3 + 3 + length a) rs)
-place-leaf p space = space
-place-leaf p force = force
-place-leaf p (if-block v) = if-block (range (p + 3) (length v))
+pub placed : (s : List ℕ) → Bytes s → check-answer s ≡ accepted 0 → Placed s
+unfolding check-answer text-places accepted-texts
+placed s bs e =
+    let (t, et, _) = bind-inv _ _ _ e in
+    let R = tree-read s t bs et in
+    go t et (R .checked) (R .good .good) (check content (at s) (places 0 (length s))) refl
+  where
+    go : (t : Frag ℕ) → tree s ≡ accepted t → check content itself s ≡ accepted (frag-fields t) → Good in-fragment 0 0 (frag-fields t)
+        → (c : Result (Fields ℕ)) → check content (at s) (places 0 (length s)) ≡ c → Placed s
+    go t et q G (refused n p) ec = let z : check content itself s ≡ refused n p = check-places s ∙ ap (map-result (map-fields (at s))) ec in no-path (cc)
+    go t et q G (accepted i) ec =
+        let z : check content itself s ≡ accepted (map-fields (at s) i) = check-places s ∙ ap (map-result (map-fields (at s))) ec in
+        let f : frag-fields t ≡ map-fields (at s) i = cc in
+        record {
+          fields = i;
+          checked = ec;
+          texts = ap accepted-texts z ∙ map-texts (at s) i;
+          good = subst (λ i. Good in-fragment 0 0 i) f G;
+          through = et ∙ ap accepted (sym (frag-back t) ∙ ap (frag-of itself) f ∙ frag-of-map content (at s) itself i);
+        }
 
-abbrev mutual
-  pub place-frag : ℕ → Frag ℕ → Frag ℕ
-  place-frag p stop = stop
-  place-frag p (leaf n r) = leaf (place-leaf p n) (place-frag (p + length (leaf-bytes n)) r)
-  place-frag p (block k fs r) = block k (place-frags (p + 3) fs) (place-frag (p + 3 + length (encode-fields (frags-fields fs))) r)
+-- the flags of places that stand one after the other
+pub like-places : {b b′ : ℕ → ℕ} (Q : Bool → ℕ → Type 0) (outside : (p : ℕ) → Q false p → b p ≡ b′ p) (ms : List Bool) (p n : ℕ)
+    → ((k : ℕ) → k < n → Q (getD ms k false) (p + k)) → Like content b b′ Q outside ms (places p n)
+unfolding places
+like-places Q outside ms p zero h = tt
+like-places Q outside [] p (suc n) h = tt
+like-places Q outside (m ∷ ms) p (suc n) h = (
+  rw add-zero at (h 0 (omega arith)),
+  like-places Q outside ms (suc p) n (λ k l. let q : p + suc k ≡ suc p + k = omega arith in subst (Q (getD ms k false)) q (h (suc k) (omega arith))),
+)
 
-  pub place-frags : ℕ → Frags ℕ → Frags ℕ
-  place-frags p none-left = none-left
-  place-frags p (frag f fs) = frag (place-frag (p + 3) f) (place-frags (p + 3 + length (encode-fields (frag-fields f))) fs)
+-- ---- copied places are places of the file
 
--- ---- what stands where
+-- a page of a mapped tree is the mapped page
+pub shown-map : (k : Page) {X Y : Type 0} (f : X → Y) (look : Y → Escape) (newline : Y → Bool) (t : Frag X)
+    → shown k look newline (map-frag f t) ≡ map (map-out f) (shown k (old-look f look) (old f newline) t)
+shown-map plain-page f look newline t = plain-map f newline t
+shown-map html-body f look newline t = body-map f look newline t
+shown-map html-document f look newline t = document-map f look newline t
 
--- xs stands at p in the file
-record At (s : List ℕ) (p : ℕ) (xs : List ℕ) : Type 0 where
-  before : List ℕ
-  after : List ℕ
-  whole : s ≡ before ++ (xs ++ after)
-  place : length before ≡ p
+-- a place below n
+abbrev Place : ℕ → Type 0
+Place n = (p : ℕ) × (p < n)
 
-at-left : {s : List ℕ} {p : ℕ} (xs ys : List ℕ) → At s p (xs ++ ys) → At s p xs
-at-left xs ys h =
-    record { before = h .before; after = ys ++ h .after; whole = h .whole ∙ ap (λ (l : List ℕ). h .before ++ l) (append-assoc xs ys (h .after)); place = h .place }
+abbrev number : {n : ℕ} → Place n → ℕ
+number x = x .0
 
-at-right : {s : List ℕ} {p : ℕ} (xs ys : List ℕ) → At s p (xs ++ ys) → At s (p + length xs) ys
-at-right xs ys h =
-    record {
-      before = h .before ++ xs;
-      after = h .after;
-      whole = h .whole ∙ ap (λ (l : List ℕ). h .before ++ l) (append-assoc xs ys (h .after)) ∙ sym (append-assoc (h .before) xs (ys ++ h .after));
-      place = length-append (h .before) xs ∙ ap (λ (n : ℕ). n + length xs) (h .place);
-    }
+places-below : (m p n : ℕ) → p + n ≤ m → (xs : List (Place m)) × (places p n ≡ map number xs)
+unfolding places
+places-below m p zero l = ([], refl)
+places-below m p (suc n) l = let (xs, e) = places-below m (suc p) n (omega arith) in ((p, omega arith) ∷ xs, ap (p ∷_) e)
 
-at-value : {s : List ℕ} {p : ℕ} (t : ℕ) (v : List ℕ) → At s p (field t v) → At s (p + 3) v
-unfolding field
-at-value t v h = at-right (t ∷ _ ∷ _ ∷ []) v h
+copied-below : {n : ℕ} (os : List (Out (Place n))) → Below n (map (map-out number) os)
+copied-below [] = tt
+copied-below (made b ∷ os) = copied-below os
+copied-below (copied x ∷ os) = (x .1, copied-below os)
 
-at-rest : {s : List ℕ} {p : ℕ} (t : ℕ) (v w : List ℕ) → At s p (field t v ++ w) → At s (p + 3 + length v) w
-unfolding field
-at-rest t v w h = at-right v w (at-right (t ∷ _ ∷ _ ∷ []) (v ++ w) h)
-
-at-first : {s : List ℕ} {p : ℕ} (t : ℕ) (v w : List ℕ) → At s p (field t v ++ w) → At s (p + 3) v
-at-first t v w h = at-value t v (at-left (field t v) w h)
-
-read-range : (s : List ℕ) (p : ℕ) (v : List ℕ) → At s p v → map (at s) (range p (length v)) ≡ v
-unfolding range
-read-range s p [] h = refl
-read-range s p (x ∷ v) h =
-    let e : at s p ≡ x = ap (λ (l : List ℕ). getD l p 0) (h .whole) ∙ getD-at (h .before) x (v ++ h .after) 0 p (h .place) in
-    let q : p + 1 ≡ suc p = omega arith in
-    ap₂ _∷_ e (read-range s (suc p) v (rw q at (at-right (x ∷ []) v h)))
-
--- ---- the tree, read through the file
-
-module _ (s : List ℕ) where
-  run-placed : (p : ℕ) (r : Run ℕ) → At s p (encode-fields (fields-of-run r)) → map-run (at s) (place-run p r) ≡ r
-  unfolding run-fields encode-fields
-  run-placed p r h = go (r .style) (r .chars) h
-    where
-      go : (o : Option (Fields ℕ)) (v : List ℕ) → At s p (encode-fields (run-fields o v))
-          → map-run (at s) (record { style = o; chars = range (p + style-length o + 3) (length v) }) ≡ record { style = o; chars = v }
-      go none v h =
-          let q : p + 3 ≡ p + 0 + 3 = omega arith in
-          ap (λ (c : List ℕ). record { style = none; chars = c }) (read-range s (p + 0 + 3) v (rw q at (at-first 17 v [] h)))
-      go (some i) v h =
-          let q : p + 3 + length (encode-fields i) + 3 ≡ p + (3 + length (encode-fields i)) + 3 = omega arith in
-          ap (λ (c : List ℕ). record { style = some i; chars = c })
-          (read-range s (p + (3 + length (encode-fields i)) + 3) v (rw q at (at-first 17 v [] (at-rest 16 (encode-fields i) _ h))))
-
-  runs-placed : (p : ℕ) (rs : List (Run ℕ)) → At s p (encode-fields (runs-fields rs)) → map (map-run (at s)) (place-runs p rs) ≡ rs
-  unfolding runs-fields encode-fields
-  runs-placed p [] h = refl
-  runs-placed p (r ∷ rs) h =
-      ap₂ _∷_ (run-placed (p + 3) r (at-first 1 _ _ h)) (runs-placed _ rs (at-rest 1 (encode-fields (fields-of-run r)) _ h))
-
-  leaf-placed : (p : ℕ) (n : Leaf ℕ) → At s p (leaf-bytes n) → map-leaf (at s) (place-leaf p n) ≡ n
-  unfolding leaf-bytes
-  leaf-placed p (text r) h = ap text (run-placed (p + 3) r (at-value 1 _ h))
-  leaf-placed p (anchor d a rs) h =
-      let v : At s (p + 3) (field (anchor-tag d) a ++ encode-fields (runs-fields rs)) = at-value 2 _ h in
-      ap₂ (anchor d) (read-range s (p + 3 + 3) a (at-first (anchor-tag d) a _ v)) (runs-placed _ rs (at-rest (anchor-tag d) a _ v))
-  leaf-placed p space h = refl
-  leaf-placed p force h = refl
-  leaf-placed p (if-block v) h = ap if-block (read-range s (p + 3) v (at-value 7 v h))
-
-  mutual
-    unfolding frag-fields encode-fields
-
-    frag-placed : (p : ℕ) (t : Frag ℕ) → At s p (encode-fields (frag-fields t)) → map-frag (at s) (place-frag p t) ≡ t
-    frag-placed p stop h = refl
-    frag-placed p (leaf n r) h =
-        let g = rw (encode-leaf n) at h in
-        ap₂ leaf (leaf-placed p n (at-left (leaf-bytes n) _ g)) (frag-placed _ r (at-right (leaf-bytes n) _ g))
-    frag-placed p (block k fs r) h = ap₂ (block k) (frags-placed (p + 3) fs (at-first (block-tag k) _ _ h)) (frag-placed _ r (at-rest (block-tag k) (encode-fields (frags-fields fs)) _ h))
-
-    frags-placed : (p : ℕ) (fs : Frags ℕ) → At s p (encode-fields (frags-fields fs)) → map-frags (at s) (place-frags p fs) ≡ fs
-    frags-placed p none-left h = refl
-    frags-placed p (frag f fs) h = ap₂ frag (frag-placed (p + 3) f (at-first 8 _ _ h)) (frags-placed _ fs (at-rest 8 (encode-fields (frag-fields f)) _ h))
-
-append-nil : (l : List ℕ) → l ≡ l ++ []
-append-nil [] = refl
-append-nil (x ∷ l) = ap (x ∷_) (append-nil l)
-
--- THE TREE OVER PLACES, READ THROUGH THE FILE, IS THE FILE'S TREE
-pub placed : (s : List ℕ) (t : Frag ℕ) → encode t ≡ s → map-frag (at s) (place-frag 0 t) ≡ t
-unfolding encode
-placed s t e = frag-placed s 0 t (record { before = []; after = []; whole = sym e ∙ append-nil _; place = refl })
+-- EACH COPIED PLACE IS BELOW THE FILE'S LENGTH
+pub list-below : (k : Page) (s : List ℕ) (look : ℕ → Escape) (newline : ℕ → Bool) (t : Frag ℕ) → place-tree s ≡ accepted t
+    → Below (length s) (shown k look newline t)
+unfolding place-tree
+list-below k s look newline t e =
+    let (xs, q) = places-below (length s) 0 (length s) (omega arith) in
+    go (read content (λ x. at s (number x)) xs) (sym (read-map content number (at s) xs) ∙ ap (read content (at s)) (sym q) ∙ e)
+  where
+    go : (r : Result (Frag (Place (length s)))) → map-result (map-frag number) r ≡ accepted t → Below (length s) (shown k look newline t)
+    go (refused n p) e = no-path (cc)
+    go (accepted u) e =
+        let f : map-frag number u ≡ t = cc in
+        subst (λ t. Below (length s) (shown k look newline t)) f (rw (shown-map k number look newline u) (copied-below (shown k (old-look number look) (old number newline) u)))

@@ -143,7 +143,7 @@ module _ (asked : Content) {X Y : Type 0} (f : X → Y) (byte : Y → ℕ) where
   mutual
     unfolding frag-of map-fields
 
-    frag-of-map : (i : Fields X) → frag-of byte (map-fields f i) ≡ map-frag f (frag-of old-byte i)
+    pub frag-of-map : (i : Fields X) → frag-of byte (map-fields f i) ≡ map-frag f (frag-of old-byte i)
     frag-of-map end = refl
     frag-of-map (bytes t v r) = ap₂ leaf (leaf-of-map (eqb t 5) (eqb t 6) v) (frag-of-map r)
     frag-of-map (inside t i r) = node-of-map (eqb t 1) (eqb t 2) _ i _ _ _ _ (frag-of-map r) (frags-of-map i)
@@ -153,9 +153,11 @@ module _ (asked : Content) {X Y : Type 0} (f : X → Y) (byte : Y → ℕ) where
     frags-of-map (bytes t v r) = frags-of-map r
     frags-of-map (inside t i r) = ap₂ frag (frag-of-map i) (frags-of-map r)
 
+  pub check-map : (s : List X) → check asked byte (map f s) ≡ map-result (map-fields f) (check asked old-byte s)
+  unfolding check
+  check-map s = simp length-map (then-map (map-fields f) _ _ _ (walk-map (length s) in-fragment 0 0 0 s))
+
   -- THE TREE OF A MAPPED FILE
   pub read-map : (s : List X) → read asked byte (map f s) ≡ map-result (map-frag f) (read asked old-byte s)
-  unfolding read check
-  read-map s =
-      bind-map (map-fields f) (map-frag f) _ _ _ _
-      (simp length-map (then-map (map-fields f) _ _ _ (walk-map (length s) in-fragment 0 0 0 s))) (λ i. ap accepted (frag-of-map i))
+  unfolding read
+  read-map s = bind-map (map-fields f) (map-frag f) _ _ _ _ (check-map s) (λ i. ap accepted (frag-of-map i))

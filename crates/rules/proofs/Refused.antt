@@ -3,7 +3,7 @@ use mathlib.Core.Path.{_≡_, refl, sym}
 use mathlib.Core.List.{List, [], _∷_, map}
 use mathlib.Core.Option.{Option, none, some}
 use mathlib.Core.Bool.{Bool, true, false, _||_}
-use Prim.Native.Nat.{ℕ, zero, suc, _+_, _*_, _^_, _≤_, _<_}
+use Prim.Native.Nat.{ℕ, zero, suc, _+_, _≤_, _<_}
 use native.Mathlib.Nat.{le-refl}
 use native.Mathlib.Omega.{arith}
 use lib.Dec.{leb, eqb}
@@ -15,7 +15,7 @@ use Rattle.rules.specs.Result.{Result, refused, accepted, _>>=_, _>>_, n
 use Rattle.rules.specs.Walk.{Fields, Holder, in-fragment, in-block, in-text, in-anchor, in-styles, front, Content, valued, walk, check, text-content, anchor-content, content, complete, tags, holds}
 use Rattle.rules.specs.Tree.{Frag, read, frag-of}
 use Rattle.rules.specs.Good.{depth-in}
-use Rattle.rules.specs.Answers.{itself, tree, check-answer, coded}
+use Rattle.rules.specs.Answers.{itself, tree}
 use Rattle.rules.proofs.Chains.{no-path}
 use Rattle.rules.proofs.Fuel.{front-fits}
 
@@ -155,20 +155,3 @@ never-both s t n p x y = let z : _≡_ {A = ℕ} 0 1 = cc in no-path z
 -- the bytes of an accepted file up to any place: one verdict, at a place of what is left
 pub cut-verdict : (s : List ℕ) (k : ℕ) → Verdict (take k s)
 cut-verdict s k = verdict (take k s)
-
--- A REFUSED FILE'S ANSWER FITS 64 BITS
-pub coded-refused : (s : List ℕ) (n p : ℕ) → tree s ≡ refused n p → p * 256 + n < 2 ^ 64
-coded-refused s n p e = bounded (refused-place s n p e)
-  where
-    bounded : Refusable s n p → p * 256 + n < 2 ^ 64
-    bounded (too-long x y l) = omega (arith, x, y)
-    bounded (at-fault F l m) = omega (arith, F .1)
-
--- and so does the file check's
-pub coded-check : (s : List ℕ) → coded (check-answer s) < 2 ^ 64
-unfolding coded check-answer _>>=_
-coded-check s = go (tree s) refl
-  where
-    go : (r : Result (Frag ℕ)) → tree s ≡ r → coded (r >>= (λ t. accepted 0)) < 2 ^ 64
-    go (accepted t) e = omega arith
-    go (refused n p) e = coded-refused s n p e

@@ -130,10 +130,10 @@ node-bytes t n7 v x y l e h = ap (bytes 7 v) h
 
 module _ (asked : Content) where
   -- what Good says of the fields inside a t
-  abbrev Inner : ℕ → ℕ → Fields ℕ → Type 0
+  abbrev pub Inner : ℕ → ℕ → Fields ℕ → Type 0
   Inner t d i = (h : Holder) × (holds t ≡ some h) × AllHold (complete h (tags i)) × GoodAs asked h (depth-in t d) 0 i
 
-  good-inside : (t d : ℕ) (i : Fields ℕ) (h : Holder) → holds t ≡ some h → Inner t d i → GoodAs asked h (depth-in t d) 0 i
+  pub good-inside : (t d : ℕ) (i : Fields ℕ) (h : Holder) → holds t ≡ some h → Inner t d i → GoodAs asked h (depth-in t d) 0 i
   good-inside t d i h e I = in-holder (λ h. GoodAs asked h (depth-in t d) 0 i) t h e (I .0) (I .1) (I .3)
 
   inside-complete : (t d : ℕ) (i : Fields ℕ) (h : Holder) → holds t ≡ some h → Inner t d i → AllHold (complete h (tags i))

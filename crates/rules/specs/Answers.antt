@@ -1,7 +1,7 @@
 -- What each public entry answers, and what it leaves in the slice that it is lent: for every file, width and page buffer.
 use mathlib.Core.List.{List, [], _∷_, _++_}
 use mathlib.Core.Bool.{Bool, true, false}
-use Prim.Native.Nat.{ℕ, suc, _+_, _*_}
+use Prim.Native.Nat.{ℕ, suc, _+_, _*_, _/_, _%_}
 use lib.Dec.{leb, eqb}
 use lib.ListN.{length, drop}
 use Rattle.rules.specs.Limits.{most-bytes, most-columns}
@@ -96,3 +96,7 @@ coded (refused n p) = p * 256 + n
 -- an outcome so: the bytes left are the same
 unfoldable pub coded-outcome : Result ℕ × List ℕ → ℕ × List ℕ
 coded-outcome x = (coded (x .0), x .1)
+
+-- and back: an answer whose refusal has a number of 1 to 255 is found again (`Unique.coded-back`)
+unfoldable pub decoded : ℕ → Result ℕ
+decoded c = if eqb (c % 256) 0 then accepted (c / 256) else refused (c % 256) (c / 256)

@@ -19,5 +19,6 @@ pub mod Sizes
 pub mod Html
 pub mod Answers
 pub mod Mask
+pub mod Alike
 pub mod Cases
 pub mod Refusals

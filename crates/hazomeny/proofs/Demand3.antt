@@ -1,0 +1,62 @@
+-- Demand 3 stated of the public contracts (src/lib.rt): what satisfies them on two accepted files that are equal but for bytes inside texts. The words are
+-- those of rules/specs/Alike; `said` is what an answer says, `decoded` what the number that a C name answers says.
+use mathlib.Core.Path.{_≡_, sym, _∙_, ap}
+use mathlib.Core.List.{List}
+use Prim.Native.Nat.{ℕ}
+use lib.ListN.{length}
+use Rattle.rules.specs.declared.Answer.{Answer}
+use Rattle.rules.specs.Result.{Result, said}
+use Rattle.rules.specs.Answers.{check-answer, layout-outcome, coded, coded-outcome, decoded}
+use Rattle.rules.specs.Alike.{AlikeFiles, SameLayout, Page, outcome-of, kept, OneList}
+use Rattle.rules.proofs.Unique.{said-unique, coded-outcome-back}
+use Rattle.rules.proofs.Demand3.{same-layout, one-list}
+use Rattle.hazomeny.proofs.Fits.{Told, told-layout, told-page}
+
+abbrev Outcome : Type 0
+Outcome = Result ℕ × List ℕ
+
+-- what holds of two outcomes with equal answers, of answers that say them
+of-said : (R : Outcome → Outcome → Type 0) (o o′ : Outcome) → R o o′ → o .0 ≡ o′ .0 → (a a′ : Answer) (r r′ : List ℕ)
+    → (said a, r) ≡ o → (said a′, r′) ≡ o′ → (a ≡ a′) × R (said a, r) (said a′, r′)
+of-said R o o′ h q a a′ r r′ e e′ = (said-unique a a′ (ap (λ x. x .0) e ∙ q ∙ sym (ap (λ x. x .0) e′)), rw (e, e′) h)
+
+-- and of numbers
+of-coded : (R : Outcome → Outcome → Type 0) (o o′ : Outcome) → R o o′ → o .0 ≡ o′ .0 → Told (o .0) → Told (o′ .0) → (n n′ : ℕ) (r r′ : List ℕ)
+    → (n, r) ≡ coded-outcome o → (n′, r′) ≡ coded-outcome o′ → (n ≡ n′) × R (decoded n, r) (decoded n′, r′)
+unfolding coded-outcome
+of-coded R o o′ h q T T′ n n′ r r′ e e′ = (
+  ap (λ x. x .0) e ∙ ap coded q ∙ sym (ap (λ x. x .0) e′),
+  rw (coded-outcome-back o (T .numbered) n r e, coded-outcome-back o′ (T′ .numbered) n′ r′ e′) h,
+)
+
+-- THE FILE CHECK ANSWERS BOTH ALIKE
+module _ {keep s s′ : List ℕ} (F : AlikeFiles keep s s′) where
+  pub check-alike : (a a′ : Answer) → said a ≡ check-answer s → said a′ ≡ check-answer s′ → a ≡ a′
+  check-alike a a′ e e′ = said-unique a a′ (e ∙ F .passes ∙ sym (F .passes′) ∙ sym e′)
+
+  pub check-alike-in-c : (n n′ : ℕ) → n ≡ coded (check-answer s) → n′ ≡ coded (check-answer s′) → n ≡ n′
+  check-alike-in-c n n′ e e′ = e ∙ ap coded (F .passes ∙ sym (F .passes′)) ∙ sym e′
+
+-- LAYOUT ANSWERS BOTH ALIKE, CHANGES THE SAME PLACES AND LEAVES SUCH FILES, from which the page k may follow
+module _ (k : Page) (w : ℕ) (s s′ : List ℕ) (F : AlikeFiles (kept k) s s′) where
+  pub layout-alike : (a a′ : Answer) (t t′ : List ℕ) → (said a, t) ≡ layout-outcome w s → (said a′, t′) ≡ layout-outcome w s′
+      → (a ≡ a′) × SameLayout (kept k) s s′ (said a, t) (said a′, t′)
+  layout-alike = let L = same-layout k w s s′ F in of-said (SameLayout (kept k) s s′) _ _ L (L .same-answer)
+
+  pub layout-alike-in-c : (n n′ : ℕ) (t t′ : List ℕ) → (n, t) ≡ coded-outcome (layout-outcome w s) → (n′, t′) ≡ coded-outcome (layout-outcome w s′)
+      → (n ≡ n′) × SameLayout (kept k) s s′ (decoded n, t) (decoded n′, t′)
+  layout-alike-in-c =
+      let L = same-layout k w s s′ F in
+      of-coded (SameLayout (kept k) s s′) _ _ L (L .same-answer) (told-layout w s) (told-layout w s′)
+
+-- EACH PAGE'S ENTRY ANSWERS BOTH ALIKE, AND ONE LIST GIVES BOTH PAGES
+module _ (k : Page) (s s′ q q′ : List ℕ) (F : AlikeFiles (kept k) s s′) (m : length q ≡ length q′) where
+  pub page-alike : (a a′ : Answer) (r r′ : List ℕ) → (said a, r) ≡ outcome-of k s q → (said a′, r′) ≡ outcome-of k s′ q′
+      → (a ≡ a′) × OneList k s s′ q q′ (said a, r) (said a′, r′)
+  page-alike = let L = one-list k s s′ q q′ F m in of-said (OneList k s s′ q q′) _ _ L (L .same-answer)
+
+  pub page-alike-in-c : (n n′ : ℕ) (r r′ : List ℕ) → (n, r) ≡ coded-outcome (outcome-of k s q) → (n′, r′) ≡ coded-outcome (outcome-of k s′ q′)
+      → (n ≡ n′) × OneList k s s′ q q′ (decoded n, r) (decoded n′, r′)
+  page-alike-in-c =
+      let L = one-list k s s′ q q′ F m in
+      of-coded (OneList k s s′ q q′) _ _ L (L .same-answer) (told-page k s q (F .bytes)) (told-page k s′ q′ (F .bytes′))
