@@ -38,9 +38,9 @@ next h b H =
     elim (decLt (suc (b % h)) h) [
       | yes l ↦ let e : suc b ≡ b / h * h + suc (b % h) = omega (arith, div-add-mod' b h) in rw e (at h (b / h) (suc (b % h)) l ∙ step h (b / h) (b % h))
       | no l ↦
-        let k : suc (b % h) ≡ h = omega (arith, mod-lt b H) in
-        let e : suc b ≡ suc (b / h) * h + 0 = omega (arith, div-add-mod' b h, suc-mul (b / h) h) in
-        rw e (at h (suc (b / h)) 0 H ∙ cross h (b / h) (b % h) k)
+          let k : suc (b % h) ≡ h = omega (arith, mod-lt b H) in
+          let e : suc b ≡ suc (b / h) * h + 0 = omega (arith, div-add-mod' b h, suc-mul (b / h) h) in
+          rw e (at h (suc (b / h)) 0 H ∙ cross h (b / h) (b % h) k)
     ]
 
 pub hid-pos : (f : Format) → 0 < hid f
