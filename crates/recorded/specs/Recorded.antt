@@ -1,5 +1,5 @@
 -- The Rust's recorded answers on small files, and what it is for the rules to give the same. Made by tests/recorded/definitions from the
--- recorded requests and answers.
+-- recorded requests and answers, a list for each operation.
 use mathlib.Core.List.{List, [], _∷_}
 use mathlib.Core.Bool.{Bool, true, false, _&&_}
 use Prim.Native.Nat.{ℕ}

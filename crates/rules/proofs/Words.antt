@@ -9,7 +9,7 @@ use native.Mathlib.Omega.{arith}
 use lib.Dec.{T, leb, ltb, eqb}
 use lib.IntN.{pos, negsuc}
 use lib.Ieee.{Format, binary32, low}
-use lib.Signed.{leZ}
+use lib.Signed.{leZ, leZ-yes}
 use borrow.Author.Tests.{leb-true, ltb-true, ltb-false, eqb-true, le-leb, lt-leb}
 use Rattle.rules.specs.Bytes.{if_then_else_}
 use Rattle.rules.specs.Digits.{signed}
@@ -81,14 +81,14 @@ passed true t = refl
 passed false t = absurd t
 
 module _ (b : ℕ) where
-  size-test : right-size b ≡ leZ (signed b) (pos 117)
+  pub size-test : leZ (signed b) (pos 117) ≡ right-size b
   unfolding right-size signed
   size-test = go (ltb b 128) refl
     where
-      go : (e : Bool) → ltb b 128 ≡ e → (leb b 117 || leb 128 b) ≡ leZ (if e then pos b else negsuc (255 - b)) (pos 117)
+      go : (e : Bool) → ltb b 128 ≡ e → leZ (if e then pos b else negsuc (255 - b)) (pos 117) ≡ (leb b 117 || leb 128 b)
       go true q = simp (lt-leb 128 b (ltb-true b 128 q), or-false)
       go false q = simp (le-leb 128 b (ltb-false b 128 q), or-true)
 
   -- THE TEST OF A SIZE'S BYTE IS AT MOST 117 AS A SIGNED BYTE
   pub size-words : (right-size b ≡ true) ↔ SizeAllowed b
-  size-words = (λ e. record { le = subst T (sym e ∙ size-test) tt }, λ a. size-test ∙ passed _ (a .le))
+  size-words = (λ e. leZ-yes (subst T (sym (size-test ∙ e)) tt), λ a. sym size-test ∙ passed _ (a .le))
