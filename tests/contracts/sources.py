@@ -6,6 +6,7 @@ FUNCTION = re.compile(r'^\s*pub (?:extern "C" )?fn (\w+)', re.MULTILINE)
 COMMENT = re.compile(r"//.*")
 ALIAS = re.compile(r"^ghost use .* as ([\w-]+);", re.MULTILINE)
 CLAUSE = re.compile(r"\b(requires|ensures)\s*(?=\{)")
+ANSWER = re.compile(r"^\s*λ [^.]*\.")
 BRACKETS = {"(": ")", "{": "}"}
 
 
@@ -32,7 +33,7 @@ class Contract:
     def __init__(self, aliases, required, ensured):
         self.aliases = aliases
         self.requires = " and ".join(plain(clause) for clause in required) or "–"
-        self.ensures = " and ".join(plain(clause.partition(".")[2]) for clause in ensured) or "–"
+        self.ensures = " and ".join(plain(ANSWER.sub("", clause)) for clause in ensured) or "–"
 
     def without_aliases(self, text):
         """A file may know a file of definitions by a name of its own; the table may leave that out."""
