@@ -69,11 +69,11 @@ fn write(file: &Path, text: &str) -> Result<(), String> {
 
 fn how_to_get_it() -> String {
     format!(
-        "The judge wraps src/print/pretty.rs of https://github.com/Rust-GPU/spirt.\n\
-         Set PRETTY_RS to the full path of that file and build again. The version wanted\n\
-         has the SHA-256 {SHA256};\n\
-         a full clone that holds it writes it by\n\
-         \n    git cat-file blob 63291a8b45f3fd8c222e9a091f6bbf3fc85d2d4e > pretty.rs\n\
+        "The judge wraps src/print/pretty.rs of https://github.com/Rust-GPU/spirt,\n\
+         with the SHA-256 {SHA256}.\n\
+         In a clone of that repository\n\
+         \n    git show e8757adba8:src/print/pretty.rs > pretty.rs\n\
+         \nwrites it. Set PRETTY_RS to its full path and build again.\n\
          \nWithout PRETTY_RS it is looked for at {DEFAULT}, seen from this folder."
     )
 }

@@ -1,4 +1,4 @@
-//! The five entries over slices, and the three pages appended to a vector.
+//! The five entries on slices, and the three pages appended to a vector.
 
 use crate::Refusal;
 
@@ -43,7 +43,7 @@ fn answer(coded: u64) -> Result<usize, Refusal> {
 /// assert_eq!((refusal.number, refusal.place), (3, 0));
 /// ```
 pub fn check_file(file: &[u8]) -> Result<usize, Refusal> {
-    // SAFETY: the pointer and the length are those of one slice, which is read only while it is borrowed; the entry requires nothing else.
+    // SAFETY: the pointer and the length are those of one slice, which is only read, while it is borrowed; the entry has no other precondition.
     answer(unsafe { c::hazomeny_check(file.as_ptr(), file.len()) })
 }
 
@@ -102,7 +102,7 @@ pub fn html_document(file: &[u8], page: &mut [u8]) -> Result<usize, Refusal> {
     lend(c::hazomeny_html_document, file, page)
 }
 
-/// Appends the plain page of a file to `page`, which grows as needed, and says how many bytes that were. A refusal leaves `page` as it was.
+/// Appends the plain page of a file to `page`, which grows as needed, and says how many bytes it added. A refusal leaves `page` as it was.
 ///
 /// ```
 /// let mut page = b"> ".to_vec();
@@ -153,7 +153,7 @@ fn append(
     page: &mut Vec<u8>,
 ) -> Result<usize, Refusal> {
     let start = page.len();
-    // What is lent is cleared before, so no more of a large vector than nearly every page of such a file takes.
+    // What is lent is cleared first, so of a large vector's room lend only as much as nearly every page of such a file needs.
     let room = (page.capacity() - start).min(8 * file.len() + 2_048);
     page.resize(start + room, 0);
     let mut said = entry(file, &mut page[start..]);

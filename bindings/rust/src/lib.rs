@@ -1,7 +1,8 @@
 //! A printer of shader listings that is proved, not only tested, to do what its rules say.
 //!
-//! It lays a fragment file out at a width, in place, and prints it as a plain page or as HTML. Every function takes every file, width and page
-//! buffer, and ends; it refuses by number and place ([`Refusal`]), and a refusal changes no byte.
+//! It lays a fragment file out at a width, in place, and prints it as a plain page or as HTML. Every function is total and terminates, for any
+//! file, width and page buffer. What it does not accept it refuses by number and place ([`Refusal`]); a refusal changes no byte.
+//! `docs/FORMAT.md` of the repository describes the file format, the layout, the pages and the refusals.
 //!
 //! ```
 //! // `f(a, b)`: a text, a block that breaks where it does not fit, a text
@@ -19,8 +20,8 @@
 //! # Ok::<(), hazomeny::Refusal>(())
 //! ```
 //!
-//! The code behind these functions is a static library, `libhazomeny.a`, for x86-64 Linux. It takes no memory but stack (less than 256 KiB of
-//! it), keeps no state, and may be called from any number of threads.
+//! The code behind these functions is a static library, `libhazomeny.a`, for x86-64 Linux. It uses no memory but the stack (less than 256 KiB
+//! of it), keeps no state, and may be called from any number of threads.
 
 #![deny(missing_docs)]
 #![deny(unsafe_op_in_unsafe_fn)]

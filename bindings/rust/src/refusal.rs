@@ -3,12 +3,12 @@
 use std::error::Error;
 use std::fmt;
 
-/// A refusal of document 01: its number and the place that goes with it.
+/// A refusal: its number and the place that goes with it. `docs/FORMAT.md` lists them.
 ///
 /// A refusal changes no byte of what was lent.
 #[derive(Clone, Copy, Debug, PartialEq, Eq, Hash)]
 pub struct Refusal {
-    /// 1 to 10, as document 01 lists them.
+    /// 1 to 10.
     pub number: u8,
     /// The byte of the file where the fault stands; for [`Refusal::PAGE_TOO_SHORT`] the bytes that the page needs.
     pub place: usize,
@@ -31,7 +31,7 @@ impl Refusal {
             8 => "a style that is not allowed",
             9 => "a quote in an anchor",
             Self::PAGE_TOO_SHORT => "the page needs so many bytes",
-            _ => "no refusal of document 01",
+            _ => "no refusal of this library",
         }
     }
 

@@ -6,7 +6,6 @@ ghost use Prim.Native.Nat.{ℕ, _<_, _^_};
 ghost use Rattle.rules.specs.Result.{refused, refusal, said};
 ghost use Rattle.rules.specs.Answers.{coded};
 
-// A refusal's number, and its place.
 pub struct Numbered {
     pub number: u64,
     pub place: usize,

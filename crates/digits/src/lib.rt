@@ -14,7 +14,6 @@ pub struct Decimal {
     pub places: u64,
 }
 
-// The last decimal digit.
 fn last_digit(n: u64) -> u8
     ensures { λ r. ⌜ r ≡ digit (n % 10) ⌝ }
 {

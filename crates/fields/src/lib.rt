@@ -19,7 +19,6 @@ pub fn wide(b: u8) -> usize
     b as usize
 }
 
-// The field at `at`.
 pub fn field_at(s: &[u8], at: usize) -> Field
     ensures { λ r. ⌜ r ≡ field-at (now (s .entry)) at ⌝ }
 {

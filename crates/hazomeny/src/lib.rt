@@ -1,5 +1,5 @@
-// The public entries: each takes every file, width and page buffer, asks nothing of its caller, and answers as document 01 says. The C
-// names take numbers and slices and answer in one number (`coded` of rules).
+// The public entries: each is total and terminates, has no preconditions, and answers as document 01 says. The C names take slices and numbers
+// and answer in one number (`coded` of rules).
 use answers::in_one;
 use layout::whole::layout_with_max_line_width;
 use pages::frame::Kind;

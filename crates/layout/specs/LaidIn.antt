@@ -1,4 +1,4 @@
--- Layout by bytes: a node, a block's fragments, a fragment's nodes, in place; for any bytes, so that no caller owes anything.
+-- Layout by bytes: a node, a block's fragments, a fragment's nodes, in place; for any bytes, so that the functions have no preconditions.
 use mathlib.Core.List.{List, [], _∷_}
 use Prim.Native.Nat.{ℕ, zero, suc, _+_, _-_, max}
 use lib.Dec.{leb, eqb}

@@ -30,14 +30,12 @@ pub struct Laid {
     pub changed: u16,
 }
 
-// A layout with its count.
 pub fn laid_out(layout: ApproxLayout, changed: u16) -> Laid
     ensures { λ r. ⌜ said r ≡ (shape layout, changed) ⌝ }
 {
     Laid { layout, changed }
 }
 
-// The larger of two maxima.
 pub fn larger(a: u16, b: u16) -> u16
     ensures { λ r. ⌜ r ≡ max a b ⌝ }
 {

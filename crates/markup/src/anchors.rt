@@ -31,7 +31,6 @@ pub fn put_open_anchor(page: &mut [u8], at: usize, is_def: bool, name: &[u8]) ->
     put_bytes(page, next, b"\">")
 }
 
-// The tag that closes it.
 pub fn put_close_anchor(page: &mut [u8], at: usize) -> usize
     ensures { λ r. ⌜ Written (now (page .entry)) at (fill itself (mark-html {X = ℕ} close-anchor)) (now (page .exit)) r ⌝ }
 {

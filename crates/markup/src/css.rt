@@ -98,7 +98,6 @@ fn weight(thickness: i8) -> i32
     500 + (thickness as i32) * 100
 }
 
-// The weight.
 fn put_weight(page: &mut [u8], at: usize, st: Styles) -> usize
     ensures { λ r. ⌜ Written (now (page .entry)) at (html.weight-css (said-styles st .thickness)) (now (page .exit)) r ⌝ }
 {
@@ -131,7 +130,6 @@ fn put_alignment(page: &mut [u8], at: usize, st: Styles) -> usize
     put_bytes(page, at, b"vertical-align:middle;")
 }
 
-// The effective size.
 fn put_size(page: &mut [u8], at: usize, st: Styles) -> usize
     requires { ⌜ AllowedSize (said-styles st .size) ⌝ }
     ensures { λ r. ⌜ Written (now (page .entry)) at (html.size-css (layout.effective (said-styles st)) (html.script (said-styles st))) (now (page .exit)) r ⌝ }
@@ -145,7 +143,6 @@ fn put_size(page: &mut [u8], at: usize, st: Styles) -> usize
     put_alignment(page, next, st)
 }
 
-// All of it.
 pub fn put_css(page: &mut [u8], at: usize, st: Styles) -> usize
     requires { ⌜ Writable (said-styles st) ⌝ }
     ensures { λ r. ⌜ Written (now (page .entry)) at (html.css (said-styles st)) (now (page .exit)) r ⌝ }

@@ -46,7 +46,6 @@ fn put_class(page: &mut [u8], at: usize, dim: bool) -> usize
     at
 }
 
-// The tag that opens it.
 pub fn put_open_tag(page: &mut [u8], at: usize, st: Styles) -> usize
     requires { ⌜ Writable (said-styles st) ⌝ }
     ensures { λ r. ⌜ Written (now (page .entry)) at (open-tag (said-styles st)) (now (page .exit)) r ⌝ }

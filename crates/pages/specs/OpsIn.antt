@@ -1,5 +1,5 @@
--- The line operations of a node, of a block's fragments and of a fragment's nodes, by their bytes; for any bytes, so that no caller owes
--- anything.
+-- The line operations of a node, of a block's fragments and of a fragment's nodes, by their bytes; for any bytes, so that the
+-- functions have no preconditions beyond the indent's.
 use mathlib.Core.List.{List, [], _∷_, _++_}
 use mathlib.Core.Bool.{Bool, true, false}
 use Prim.Native.Nat.{ℕ, zero, suc}

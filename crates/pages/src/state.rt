@@ -45,7 +45,6 @@ fn waiting_numbered(n: usize) -> Waiting
     Waiting::NewLine
 }
 
-// The machine of a state.
 pub fn machine_in(state: usize) -> Machine
     ensures { λ r. ⌜ (machine-of r ≡ machine-in state) × Fits (line-of (r .line)) ⌝ }
 {
@@ -56,7 +55,6 @@ pub fn machine_in(state: usize) -> Machine
     }
 }
 
-// The form of a state.
 pub fn form_in(state: usize) -> Form
     ensures { λ r. ⌜ r ≡ form-in state ⌝ }
 {
@@ -96,7 +94,6 @@ fn form_number(form: Form) -> usize
     }
 }
 
-// The state of a machine and a form.
 pub fn state_of(m: Machine, form: Form) -> usize
     requires { ⌜ (m .indent < 2 ^ 16) × Fits (line-of (m .line)) ⌝ }
     ensures { λ r. ⌜ (machine-in r ≡ machine-of m) × (form-in r ≡ form) ⌝ }

@@ -41,7 +41,6 @@ fn room_of(s: &[u8], at: usize) -> usize
     wide(s[at + 5]) * 256 + wide(s[at + 6])
 }
 
-// The request at `at`.
 pub fn request_at(s: &[u8], at: usize) -> Request
     ensures { λ r. ⌜ Stands (now (s .entry)) at r ⌝ }
 {

@@ -1,4 +1,4 @@
--- The rigid layout of a node, by the bytes of its field; for any bytes, so that no caller owes anything.
+-- The rigid layout of a node, by the bytes of its field; for any bytes, so that the functions have no preconditions.
 use mathlib.Core.List.{List, [], _∷_}
 use mathlib.Core.Bool.{_&&_, _||_}
 use Prim.Native.Nat.{ℕ, _*_}

@@ -28,7 +28,7 @@ fn wide(b: u8) -> u64
 }
 
 // What a right table says of a size; from -11 downwards it is below zero. The table is a parameter so that the proof can speak of it: that the
-// constants are right is then one fact, which `em` owes.
+// constants are right is then one fact, in the proof of `em`.
 fn entry(wholes: &[u64; 246], places: &[u8; 246], size: i8) -> Decimal
     requires { ⌜ Right (now wholes) (now places) ⌝ }
     requires { ⌜ size ≤ℤ pos 117 ⌝ }

@@ -238,7 +238,6 @@ pub fn effective(st: Styles) -> i8
     0
 }
 
-// Whether there is an effective size.
 pub fn has_effective(st: Styles) -> bool
     ensures { λ r. ⌜ r ≡ is-there (layout.effective (said-styles st)) ⌝ }
 {

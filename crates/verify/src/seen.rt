@@ -15,7 +15,6 @@ pub struct Seen {
     pub superscript: bool,
 }
 
-// One of two.
 fn either(a: bool, b: bool) -> bool
     ensures { λ r. ⌜ r ≡ (a || b) ⌝ }
 {
@@ -25,7 +24,6 @@ fn either(a: bool, b: bool) -> bool
     b
 }
 
-// Both of two.
 fn both(a: bool, b: bool) -> bool
     ensures { λ r. ⌜ r ≡ (a && b) ⌝ }
 {
@@ -36,7 +34,6 @@ fn both(a: bool, b: bool) -> bool
 }
 
 impl Seen {
-    // Nothing was seen.
     pub fn nothing() -> Self
         ensures { λ r. ⌜ r ≡ nothing-seen ⌝ }
     {
@@ -49,7 +46,6 @@ impl Seen {
         }
     }
 
-    // One tag more.
     pub fn with(self, tag: u8) -> Self
         ensures { λ r. ⌜ r ≡ seen-with self tag ⌝ }
     {

@@ -1,14 +1,12 @@
 // Writing to a lent page as far as it fits: a byte past the page's end is dropped, and the position moves on all the same, so that the
-// last position says how many bytes the whole text needs. It stops at the last position there is, which no page reaches.
+// last position says how many bytes the whole text needs. Positions saturate at usize::MAX, which no page reaches.
 ghost use mathlib.Core.Path.{_≡_};
 ghost use mathlib.Core.List.{[], _∷_};
 ghost use lib.ListN.{length, replicate};
 ghost use Rattle.writing.specs.Written.{Written, moved};
 
-// The last position.
 const LAST: usize = 0xffff_ffff_ffff_ffff;
 
-// The position after.
 fn next_position(at: usize) -> usize
     ensures { λ r. ⌜ r ≡ moved at 1 ⌝ }
 {
@@ -18,7 +16,6 @@ fn next_position(at: usize) -> usize
     at
 }
 
-// One byte.
 pub fn put(page: &mut [u8], at: usize, b: u8) -> usize
     ensures { λ r. ⌜ Written (now (page .entry)) at (b ∷ []) (now (page .exit)) r ⌝ }
 {
@@ -28,7 +25,7 @@ pub fn put(page: &mut [u8], at: usize, b: u8) -> usize
     next_position(at)
 }
 
-// The position n bytes on, or the last.
+// The position n bytes on, saturating.
 fn moved_on(at: usize, n: usize) -> usize
     ensures { λ r. ⌜ r ≡ moved at n ⌝ }
 {
