@@ -2,7 +2,7 @@
 use mathlib.Core.Path.{_≡_, refl, sym, _∙_, ap}
 use mathlib.Core.List.{List, [], _∷_, map}
 use mathlib.Core.Bool.{Bool, true, false, _&&_, not}
-use Prim.Native.Nat.{ℕ, suc, _+_, _-_, _≤_, _<_}
+use Prim.Native.Nat.{ℕ, suc, _+_, _-_, _*_, _≤_, _<_}
 use native.Mathlib.Omega.{arith}
 use lib.Dec.{leb}
 use lib.ListN.{length, getD, take, drop, length-take, length-drop}
@@ -20,7 +20,7 @@ use Rattle.verify.specs.declared.answer.Checked.{Checked}
 use Rattle.verify.specs.declared.answer.Checked.the-variants.{Sound, Faulty}
 use Rattle.verify.specs.Said.{checked, done}
 use Rattle.verify.specs.Fronts.{past-answer, front-answer, Fronted}
-use Rattle.verify.specs.Walked.{front-of, content-result, value-result, field-result, ValueSaid, FieldSaid}
+use Rattle.verify.specs.Walked.{front-of, content-result, value-result, field-result, ValueSaid, FieldSaid, Stands, Room}
 use Rattle.verify.proofs.TagLaws.{Allowed, by-test}
 use Rattle.verify.proofs.SaidLaws.{stops-chain, stops-then}
 
@@ -144,8 +144,16 @@ module _ {s : List ℕ} {at : ℕ} {a : Bool} {p : ℕ} {r : Checked} (F : Front
     pub sound-three : at + 3 ≤ length s
     sound-three = omega (arith, sound-fits)
 
-    pub sound-end : {e : ℕ} → e ≡ at + 3 + length-at s at → e ≤ length s
-    sound-end q = omega (arith, sound-fits)
+    module _ {e : ℕ} (q : e ≡ at + 3 + length-at s at) where
+      pub sound-end : e ≤ length s
+      sound-end = omega (arith, sound-fits)
+
+      -- the value is shorter, also by the measure of a cycle that calls on it
+      pub sound-less : {m : ℕ} → 2 * length s ≡ m → 2 * length (take (e - (at + 3)) (drop (at + 3) s)) + 1 < m
+      sound-less k = omega (arith, length-take (e - (at + 3)) (drop (at + 3) s), length-drop (at + 3) s, sound-fits)
+
+      pub sound-room : Stands s at p → Room (p + 3) (take (e - (at + 3)) (drop (at + 3) s))
+      sound-room S = record { room = omega (arith, length-take (e - (at + 3)) (drop (at + 3) s), length-drop (at + 3) s, sound-fits, S .room) }
 
   pub header-stops : {x : Refusal} (h : Holder) (d before : ℕ) → at < length s → a ≡ allowed h before (getD s at 0) → r ≡ Faulty x → FieldSaid h d before p s at r
   unfolding field-result

@@ -3,7 +3,7 @@ use mathlib.Core.Path.{_≡_, refl, sym, _∙_, ap, subst}
 use mathlib.Core.List.{List, [], _∷_, _++_}
 use Prim.Native.Nat.{ℕ, _+_, _-_, _≤_, _<_}
 use native.Mathlib.Omega.{arith}
-use lib.ListN.{length, getD, drop, take, length-take, length-drop}
+use lib.ListN.{length, getD, drop}
 use Rattle.rules.specs.declared.Refusal.{Refusal}
 use Rattle.rules.specs.Result.{Result, _>>=_, Check, sound}
 use Rattle.rules.specs.Walk.{Holder, in-fragment, in-block, in-styles, Field, front, complete, allowed}
@@ -52,13 +52,6 @@ module _ {K : List ℕ → Type 0} {s : List ℕ} {h : Holder} {d base place bef
 
 pub field-stands : {base at : ℕ} {s : List ℕ} → Room base s → at < length s → Stands s at (base + at)
 field-stands R l = record { here = l; room = omega (arith, R .room) }
-
-module _ {h : Holder} {before : ℕ} {s : List ℕ} {at e : ℕ} (P : Passed h before s at) (q : e ≡ at + 3 + length-at s at) where
-  pub value-shorter : length (take (e - (at + 3)) (drop (at + 3) s)) < length s
-  value-shorter = omega (arith, length-take (e - (at + 3)) (drop (at + 3) s), length-drop (at + 3) s, P .fits)
-
-  pub value-room : {place : ℕ} → Stands s at place → Room (place + 3) (take (e - (at + 3)) (drop (at + 3) s))
-  value-room S = record { room = omega (arith, length-take (e - (at + 3)) (drop (at + 3) s), length-drop (at + 3) s, P .fits, S .room) }
 
 -- ---- nodes and fragments
 

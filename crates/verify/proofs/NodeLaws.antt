@@ -2,8 +2,7 @@
 use mathlib.Core.Path.{_≡_, refl, sym, _∙_}
 use mathlib.Core.List.{List}
 use mathlib.Core.Bool.{Bool, true, false, not}
-use Prim.Native.Nat.{ℕ, _+_, _-_, _*_, _≤_, _<_}
-use native.Mathlib.Omega.{arith}
+use Prim.Native.Nat.{ℕ, _+_, _-_, _≤_, _<_}
 use lib.Dec.{eqb}
 use lib.ListN.{length, getD, take, drop}
 use borrow.Author.Tests.{not-true, not-false}
@@ -16,10 +15,9 @@ use Rattle.verify.specs.declared.answer.Checked.{Checked}
 use Rattle.verify.specs.declared.answer.Checked.the-variants.{Sound, Faulty}
 use Rattle.verify.specs.Said.{checked}
 use Rattle.verify.specs.Fronts.{Fronted}
-use Rattle.verify.specs.Walked.{FieldSaid, FieldsSaid, ValueSaid, Stands, Room, Leaf}
-use Rattle.verify.proofs.FrontLaws.{Passed, header-passed, header-stops, by-value}
+use Rattle.verify.specs.Walked.{FieldSaid, FieldsSaid, ValueSaid, Stands, Leaf}
+use Rattle.verify.proofs.FrontLaws.{Passed, header-passed, header-stops, sound-room, by-value}
 use Rattle.verify.proofs.ValueLaws.{piece-value, block-value, deep-value}
-use Rattle.verify.proofs.LoopLaws.{value-room, value-shorter}
 
 abbrev value : List ℕ → (at e : ℕ) → List ℕ
 value s at e = take (e - (at + 3)) (drop (at + 3) s)
@@ -30,15 +28,9 @@ module _ {s : List ℕ} {at p : ℕ} {f : Checked} {e : ℕ} where
     passed : Passed in-fragment 0 s at
     passed = header-passed F in-fragment 0 t z
 
-    pub node-less : {t : ℕ} → 2 * length s ≡ t → 2 * length (value s at e) + 1 < t
-    node-less m = omega (arith, value-shorter passed q)
-
-    pub node-room : Stands s at p → Room (p + 3) (value s at e)
-    node-room S = value-room passed q S
-
     module _ {b : Bool} (k : b ≡ is-block (getD s at 0)) where
       pub leaf-here : not b ≡ true → Stands s at p → Leaf (getD s at 0) (p + 3) p (value s at e)
-      leaf-here n S = record { right-tag = passed .right .yes; no-block = sym k ∙ not-true _ n; behind = refl; room = node-room S .room }
+      leaf-here n S = record { right-tag = passed .right .yes; no-block = sym k ∙ not-true _ n; behind = refl; room = sound-room F z q S .room }
 
       module _ (n : not b ≡ false) {d : ℕ} where
         pub deep-node : most-blocks ≤ d → FieldSaid in-fragment d 0 p s at (Faulty (TooDeep p))
@@ -56,12 +48,6 @@ module _ {s : List ℕ} {at p : ℕ} {f : Checked} {e : ℕ} where
     piece-passed : Passed in-block 0 s at
     unfolding allowed
     piece-passed = header-passed F in-block 0 refl z
-
-    pub piece-less : {t : ℕ} → 2 * length s ≡ t → 2 * length (value s at e) + 1 < t
-    piece-less m = omega (arith, value-shorter piece-passed q)
-
-    pub piece-room : Stands s at p → Room (p + 3) (value s at e)
-    piece-room S = value-room piece-passed q S
 
     pub whole-piece : {d : ℕ} {r : Checked} → FieldsSaid in-fragment d (p + 3) 0 (value s at e) r → FieldSaid in-block d 0 p s at r
     whole-piece G = by-value piece-passed _ _ q (piece-value _ _ _ (piece-passed .right) G)

@@ -10,7 +10,7 @@ use Rattle.verify.proofs.inner.style_field.Tie as tie
 pub style-field-spec : {M : Type 1} → statement M
 style-field-spec =
     tie.close (tie.spec (λ c. search needs) (λ c κs. search needs) (λ c κs. search needs) (λ c. search needs) (λ c. search needs)
-    (λ c. λ d. header-stops (c .before .before .check-front .ensures) in-styles d _ (c .before .before .before .before .before .before .pre .here) (c .before .before .before .in-styles .ensures) (c .enum-told2 .given .1))
+    (λ c d. search header-stops)
     (λ c. search needs) (λ c κs. search sound-three) (λ c. search needs) (λ c. search needs) (λ c. search sound-end)
     (λ c κs. let A = styles-tags (header-passed (c .before .before .before .before .check-front .ensures) in-styles _ (c .before .before .before .before .before .in-styles .ensures) (c .before .before .enum-told .given .1) .right) in (A .0, A .1))
     (λ c. λ d. let P = header-passed (c .before .before .before .before .before .check-front .ensures) in-styles _ (c .before .before .before .before .before .before .in-styles .ensures) (c .before .before .before .enum-told .given .1) in by-value P d _ (c .before .before .field-end .ensures) (style-value d _ _ (P .right) (c .check-style .ensures))))
