@@ -78,41 +78,31 @@ module _ (f : Format) (b p : ℕ) (F : b < infinite f) where
   abbrev Few : Type 0
   Few = (n′ p′ : ℕ) → ReadsBack f b n′ p′ → p ≤ p′
 
-  -- n, where it reads back, and n + 1 does not or is not preferred
-  lower-shortest : (s : Bool) → Few → Within f n D b
-      → (Within f (suc n) D b → prefers-lower s o o′ ≡ true) → Shortest f s b n p
+  -- c is no farther off than any that reads back, and the larger of two that are as far
+  abbrev Beats : Bool → ℕ → Type 0
+  Beats s c = (m : ℕ) → Within f m D b → (off f c D b ≤ off f m D b) × (off f c D b ≡ off f m D b → AtMost s m c)
+
+  best : (s : Bool) (c : ℕ) → Few → Within f c D b → Beats s c → Shortest f s b c p
+  best s c few w h = record { reads = within→nearest f c D (ten-pos p) b w; fewest = few; closest = λ m r. h m (reads m r) .0; larger = λ m r. h m (reads m r) .1 }
+
+  -- n, where n + 1 does not read back or is not preferred, and the other way round
+  lower : (s : Bool) → (Within f (suc n) D b → prefers-lower s o o′ ≡ true) → Beats s n
   unfolding prefers-lower
-  lower-shortest s few w h = record { reads = within→nearest f n D (ten-pos p) b w; fewest = few; closest = close; larger = large s h }
-    where
-      no-farther : (s : Bool) → (Within f (suc n) D b → prefers-lower s o o′ ≡ true) → (m : ℕ) → n < m → Within f m D b → off f n D b ≤ off f m D b
-      no-farther true h m l v = omega (arith, leb-true o o′ (h (next-reads m l v)), above m l)
-      no-farther false h m l v = omega (arith, ltb-true o o′ (h (next-reads m l v)), above m l)
+  lower true h m v =
+      elim (decLt m n) [
+        | yes l ↦ omega (arith, strictly-below m l)
+        | no l ↦ elim (decLt n m) [ yes g ↦ omega (arith, leb-true o o′ (h (next-reads m g v)), above m g) | no g ↦ (below m (omega arith), λ e. omega arith) ]
+      ]
+  lower false h m v = elim (decLt n m) [ yes l ↦ omega (arith, ltb-true o o′ (h (next-reads m l v)), above m l) | no l ↦ (below m (omega arith), λ e. omega arith) ]
 
-      close : (m : ℕ) → ReadsBack f b m p → off f n D b ≤ off f m D b
-      close m r = elim (decLe m n) [ yes l ↦ below m l | no l ↦ no-farther s h m (omega arith) (reads m r) ]
-
-      large : (s : Bool) → (Within f (suc n) D b → prefers-lower s o o′ ≡ true) → (m : ℕ) → ReadsBack f b m p → off f n D b ≡ off f m D b → AtMost s m n
-      large true h m r e = elim (decLt m n) [ yes l ↦ absurd (omega (arith, strictly-below m l)) | no l ↦ omega arith ]
-      large false h m r e =
-          elim (decLe m n) [ yes l ↦ l | no l ↦ absurd (omega (arith, ltb-true o o′ (h (next-reads m (omega arith) (reads m r))), above m (omega arith))) ]
-
-  -- n + 1, where it reads back, and n does not or is not preferred
-  upper-shortest : (s : Bool) → Few → Within f (suc n) D b
-      → (Within f n D b → prefers-lower s o o′ ≡ false) → Shortest f s b (suc n) p
+  upper : (s : Bool) → (Within f n D b → prefers-lower s o o′ ≡ false) → Beats s (suc n)
   unfolding prefers-lower
-  upper-shortest s few w h = record { reads = within→nearest f (suc n) D (ten-pos p) b w; fewest = few; closest = close; larger = large s h }
-    where
-      no-farther : (s : Bool) → (Within f n D b → prefers-lower s o o′ ≡ false) → (m : ℕ) → m ≤ n → Within f m D b → off f (suc n) D b ≤ off f m D b
-      no-farther true h m l v = omega (arith, leb-false o o′ (h (n-reads m l v)), below m l)
-      no-farther false h m l v = omega (arith, ltb-false o o′ (h (n-reads m l v)), below m l)
-
-      close : (m : ℕ) → ReadsBack f b m p → off f (suc n) D b ≤ off f m D b
-      close m r = elim (decLe m n) [ yes l ↦ no-farther s h m l (reads m r) | no l ↦ above m (omega arith) ]
-
-      large : (s : Bool) → (Within f n D b → prefers-lower s o o′ ≡ false) → (m : ℕ) → ReadsBack f b m p → off f (suc n) D b ≡ off f m D b → AtMost s m (suc n)
-      large true h m r e =
-          elim (decLe m n) [ yes l ↦ absurd (omega (arith, leb-false o o′ (h (n-reads m l (reads m r))), below m l)) | no l ↦ omega arith ]
-      large false h m r e = elim (decLt (suc n) m) [ yes l ↦ absurd (omega (arith, strictly-above m l)) | no l ↦ omega arith ]
+  upper true h m v = elim (decLe m n) [ yes l ↦ omega (arith, leb-false o o′ (h (n-reads m l v)), below m l) | no l ↦ (above m (omega arith), λ e. omega arith) ]
+  upper false h m v =
+      elim (decLt (suc n) m) [
+        | yes l ↦ omega (arith, strictly-above m l)
+        | no l ↦ elim (decLe m n) [ yes g ↦ omega (arith, ltb-false o o′ (h (n-reads m g v)), below m g) | no g ↦ (above m (omega arith), λ e. omega arith) ]
+      ]
 
   -- what is chosen is the shortest, and where nothing is, nothing with p places reads back
   abbrev Chosen : Bool → Option ℕ → Type 0
@@ -121,10 +111,10 @@ module _ (f : Format) (b p : ℕ) (F : b < infinite f) where
 
   chosen : (s x y z : Bool) → Few → nearest f n D b ≡ x → nearest f (suc n) D b ≡ y → prefers-lower s o o′ ≡ z → Chosen s (choice x y z n)
   unfolding choice
-  chosen s true true true few ex ey ez = lower-shortest s few (within-of f n D b (test-true _ ex)) (λ w. ez)
-  chosen s true true false few ex ey ez = upper-shortest s few (within-of f (suc n) D b (test-true _ ey)) (λ w. ez)
-  chosen s true false z few ex ey ez = lower-shortest s few (within-of f n D b (test-true _ ex)) (λ w. absurd (test-false _ ey (within-test f (suc n) D b w)))
-  chosen s false true z few ex ey ez = upper-shortest s few (within-of f (suc n) D b (test-true _ ey)) (λ w. absurd (test-false _ ex (within-test f n D b w)))
+  chosen s true true true few ex ey ez = best s n few (within-of f n D b (test-true _ ex)) (lower s (λ w. ez))
+  chosen s true true false few ex ey ez = best s (suc n) few (within-of f (suc n) D b (test-true _ ey)) (upper s (λ w. ez))
+  chosen s true false z few ex ey ez = best s n few (within-of f n D b (test-true _ ex)) (lower s (λ w. absurd (test-false _ ey (within-test f (suc n) D b w))))
+  chosen s false true z few ex ey ez = best s (suc n) few (within-of f (suc n) D b (test-true _ ey)) (upper s (λ w. absurd (test-false _ ex (within-test f n D b w))))
   chosen s false false z few ex ey ez = λ m r.
       elim (decLe m n) [
         | yes l ↦ test-false _ ex (within-test f n D b (n-reads m l (reads m r)))
@@ -139,9 +129,9 @@ module _ (f : Format) (b p : ℕ) (F : b < infinite f) where
   exact-shortest : (s : Bool) → Few → n * W ≡ X → Shortest f s b n p
   unfolding prefers-lower
   exact-shortest s few e =
-      lower-shortest s few
+      best s n few
       (record { lo = omega (arith, own-low f D (ten-pos p) b); hi = omega (arith, own-high f D (ten-pos p) b) })
-      (λ w. preferred s)
+      (lower s (λ w. preferred s))
     where
       preferred : (s : Bool) → prefers-lower s o o′ ≡ true
       preferred true = le-leb o o′ (omega (arith, next))

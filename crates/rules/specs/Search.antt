@@ -22,7 +22,7 @@ below-high f num den b = leb (2 * (num * 2 ^ low f) + b % 2) (high-end f den b)
 unfoldable pub nearest : Format → (num den b : ℕ) → Bool
 nearest f num den b = above-low f num den b && below-high f num den b
 
--- the whole number below the value times 10 ^ p; the only others that may be closest is the next one
+-- the whole number below the value times 10 ^ p; the only other that may be closest is the next one
 abbrev pub floor : Format → (b p : ℕ) → ℕ
 floor f b p = mag f b * 10 ^ p / 2 ^ low f
 
