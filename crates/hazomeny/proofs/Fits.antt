@@ -6,7 +6,7 @@ use mathlib.Core.Bool.{Bool, true, false}
 use Prim.Native.Nat.{ℕ, _^_, _<_}
 use native.Mathlib.Omega.{arith}
 use lib.Dec.{leb}
-use lib.ListN.{length}
+use lib.ListN.{length, getD}
 use borrow.Author.Tests.{leb-true}
 use Rattle.rules.specs.Bytes.{newline}
 use Rattle.rules.specs.Result.{Result, refused, accepted, _>>=_, _>>_, need}
@@ -24,6 +24,7 @@ use Rattle.rules.proofs.Unique.{Numbered}
 use Rattle.rules.proofs.Demand3.{by-kind}
 use Rattle.pages.proofs.PageLengths.{plain-short}
 use Rattle.pages.proofs.HtmlLengths.{body-short, document-short}
+use Rattle.verify.proofs.Verdicts.{every-byte}
 use Rattle.layout.proofs.Counted.{changed-le}
 
 -- an answer whose number fits and loses nothing
@@ -82,6 +83,9 @@ told-page k s page b = rw (by-kind k s page) (go (tree s) refl)
 -- an answer that is an outcome's, and its number with the bytes left
 pub coded-fits : {a : Result ℕ} {s : List ℕ} (o : Result ℕ × List ℕ) → Told (o .0) → (a, s) ≡ o → coded a < 2 ^ 64
 coded-fits o h e = subst (λ (x : Result ℕ). coded x < 2 ^ 64) (sym (ap (λ (x : Result ℕ × List ℕ). x .0) e)) (h .fits)
+
+pub page-fits : (k : Page) (s page : List ℕ) {a : Result ℕ} {r : List ℕ} → (a, r) ≡ outcome-of k s page → ((i : ℕ) → getD s i 0 < 256) → coded a < 2 ^ 64
+page-fits k s page e b = coded-fits (outcome-of k s page) (told-page k s page (every-byte s b)) e
 
 pub coded-pair : (x : Result ℕ × List ℕ) {a : Result ℕ} {s : List ℕ} {r : ℕ} → r ≡ coded a → (a, s) ≡ x → (r, s) ≡ coded-outcome x
 unfolding coded-outcome

@@ -10,15 +10,16 @@ use Rattle.rules.specs.declared.Answer.the-variants.{Done, Refused}
 use Rattle.rules.specs.Result.{Result, refused, accepted, said}
 use Rattle.rules.specs.Tree.{Frag}
 use Rattle.rules.specs.Encode.{encode}
-use Rattle.rules.specs.Answers.{check-answer, laid-out, changed, left-laid, layout-outcome}
+use Rattle.rules.specs.Good.{Bytes}
+use Rattle.rules.specs.Answers.{check-answer, laid-out, changed, left-laid, layout-outcome, coded, coded-outcome, decoded}
 use Rattle.rules.specs.Alike.{Page, plain-page, html-body, html-document, outcome-of}
 use Rattle.rules.specs.Cases.{unhex, call}
 use Rattle.rules.proofs.Chains.{no-path}
 use Rattle.rules.proofs.Open.{all-open}
-use Rattle.rules.proofs.Unique.{said-unique, outcome-unique}
+use Rattle.rules.proofs.Unique.{said-unique, outcome-unique, coded-back, coded-outcome-back}
+use Rattle.hazomeny.proofs.Fits.{told-check, told-layout, told-page}
 
--- ---- NO SECOND OUTCOME SATISFIES A CONTRACT: two answers that do, and the bytes left with them, are equal. What satisfies a C name's contract says the
--- same outcome (`Unique.coded-outcome-back` with `Fits`).
+-- ---- NO SECOND OUTCOME SATISFIES A CONTRACT: two answers that do, and the bytes left with them, are equal
 
 pub check-determined : (s : List ℕ) (a b : Answer) → said a ≡ check-answer s → said b ≡ check-answer s → a ≡ b
 check-determined s a b x y = said-unique a b (x ∙ sym y)
@@ -28,6 +29,16 @@ layout-determined w s = outcome-unique (layout-outcome w s)
 
 pub page-determined : (k : Page) (s q : List ℕ) (a b : Answer) (r u : List ℕ) → (said a, r) ≡ outcome-of k s q → (said b, u) ≡ outcome-of k s q → (a ≡ b) × (r ≡ u)
 page-determined k s q = outcome-unique (outcome-of k s q)
+
+-- the number that a C name answers is fixed by its contract, and says the outcome
+pub check-said-in-c : (s : List ℕ) (n : ℕ) → n ≡ coded (check-answer s) → decoded n ≡ check-answer s
+check-said-in-c s n e = ap decoded e ∙ coded-back (check-answer s) (told-check s .numbered)
+
+pub layout-said-in-c : (w : ℕ) (s : List ℕ) (n : ℕ) (r : List ℕ) → (n, r) ≡ coded-outcome (layout-outcome w s) → (decoded n, r) ≡ layout-outcome w s
+layout-said-in-c w s = coded-outcome-back (layout-outcome w s) (told-layout w s .numbered)
+
+pub page-said-in-c : (k : Page) (s q : List ℕ) → Bytes s → (n : ℕ) (r : List ℕ) → (n, r) ≡ coded-outcome (outcome-of k s q) → (decoded n, r) ≡ outcome-of k s q
+page-said-in-c k s q b = coded-outcome-back (outcome-of k s q) (told-page k s q b .numbered)
 
 -- ---- 1. CODE THAT REFUSES EVERYTHING: at the empty file, with a page that is long enough, no refusal satisfies a contract
 

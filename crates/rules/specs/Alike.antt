@@ -35,6 +35,7 @@ pub record SameLayout (kept s s′ : List ℕ) (o o′ : Result ℕ × List ℕ)
 
 -- ---- pages
 
+-- the three pages, and what the entry of each answers and leaves
 pub data Page : Type 0 where
   plain-page html-body html-document : Page
 
