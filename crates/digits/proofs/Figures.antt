@@ -12,7 +12,7 @@ use borrow.Author.Tests.{lt-ltb, le-ltb}
 use Rattle.rules.specs.Digits.{digit, digits, hex-digit, hex, last-digits, fraction, sign, signed-digits, decimal-text}
 use Rattle.rules.proofs.Printed.{digits-small, digits-large}
 use Rattle.writing.specs.Written.{Written}
-use Rattle.writing.specs.Laws.{nothing, then}
+use Rattle.writing.proofs.Laws.{nothing, then}
 use Rattle.digits.specs.declared.Decimal as Code
 use Rattle.digits.specs.Said.{decimal-of}
 

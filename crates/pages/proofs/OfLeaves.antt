@@ -18,7 +18,7 @@ use Rattle.rules.proofs.Typed.{inner-good}
 use Rattle.rules.proofs.Turned.{leaf-bytes}
 use Rattle.fields.proofs.Encoded.{field-here, value-here}
 use Rattle.styles.specs.StylesIn.{styles-in}
-use Rattle.styles.specs.Sound.{good-styles}
+use Rattle.styles.proofs.Sound.{good-styles}
 use Rattle.parts.specs.Walk.{part}
 use Rattle.parts.proofs.OfFields.{length-field}
 use Rattle.pages.specs.OpsIn.{styled-in, run-fields-in, run-in, run-field-in, named-in, anchor-fields-in, anchor-in, if-block-in, leaf-in, node-by, node-in}

@@ -9,7 +9,7 @@ use Rattle.rules.specs.Lines.{Machine, Out, Item, char, made, copied, marked, L
 use Rattle.rules.specs.Plain.{chars, fill}
 use Rattle.rules.specs.Html.{escape, item-html, items-html}
 use Rattle.rules.specs.Answers.{itself}
-use Rattle.writing.specs.Laws as writing
+use Rattle.writing.proofs.Laws as writing
 use Rattle.lines.specs.Said.{break-of, operation}
 use Rattle.lines.specs.declared.Break.{Break}
 use Rattle.styles.specs.StylesIn.{styles-in}

@@ -17,7 +17,7 @@ use Rattle.rules.proofs.Typed.{inner-good}
 use Rattle.rules.proofs.Turned.{leaf-bytes}
 use Rattle.fields.proofs.Encoded.{field-here, value-here}
 use Rattle.styles.specs.StylesIn.{styles-in}
-use Rattle.styles.specs.Sound.{good-styles}
+use Rattle.styles.proofs.Sound.{good-styles}
 use Rattle.parts.specs.Walk.{part, fold}
 use Rattle.parts.proofs.Loops.{fold-nil}
 use Rattle.parts.proofs.OfFields.{length-field, fold-field}

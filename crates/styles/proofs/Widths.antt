@@ -9,7 +9,7 @@ use lib.Dec.{ltb, eqb, leb→le, eqb→eq}
 use lib.IntN.{ℤ, pos, negsuc}
 use lib.ListN.{length, take, drop, getD}
 use borrow.Author.Tests.{eq-eqb, ne-eqb, lt-ltb, le-ltb, le-leb, lt-leb}
-use Rattle.rules.specs.Bytes.{if_then_else_, number}
+use Rattle.rules.specs.Bytes.{if_then_else_}
 use Rattle.rules.specs.Digits.{signed}
 use Rattle.rules.specs.Walk.{right-length, right-size}
 use Rattle.rules.specs.Tree.{Styles, signed-byte}
@@ -19,7 +19,7 @@ use Rattle.fields.specs.declared.Field.the-variants.{Whole}
 use Rattle.fields.specs.FieldAt.{field-at}
 use Rattle.styles.specs.Said.{AllowedSize}
 use Rattle.styles.specs.StylesIn.{no-styles, right-value, put-part, with-field, styles-in}
-use Rattle.styles.specs.StylesWritable.{effective-allowed, styles-writable}
+use Rattle.styles.proofs.StylesWritable.{effective-allowed, styles-writable}
 use Rattle.styles.specs.WidthIn.{sized, measure, script, script-with, width-with}
 use Rattle.styles.proofs.EveryByte.{of-byte}
 use Rattle.styles.proofs.Lengths.{number-one}

@@ -14,6 +14,5 @@ abbrev μ-loop : tie.MeasureT-loop
 μ-loop from into₀ at₀ into at = length into₀ - at
 
 pub copy-spec : {M : Type 1} → statement M
-copy-spec =
-    tie.close (tie.spec Inv-loop μ-loop (λ c. search needs) (λ c. (refl, omega arith)) (λ c. search needs) (λ c. search needs) (λ c. search needs)
+copy-spec = tie.close (tie.spec Inv-loop μ-loop (λ c. search needs) (λ c. (refl, omega arith)) (λ c. search needs) (λ c. search needs) (λ c. search needs)
     (λ c. search needs) (λ c. search needs) (λ c. search needs) (λ c. search needs))

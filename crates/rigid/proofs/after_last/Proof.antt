@@ -11,8 +11,7 @@ abbrev μ-loop : tie.MeasureT-loop
 μ-loop v n₀ n = n
 
 pub after-last-spec : {M : Type 1} → statement M
-after-last-spec =
-    tie.close (tie.spec Inv-loop μ-loop (λ c. none-seen _) (λ c. search needs) (λ c. search needs) (λ c. search needs)
+after-last-spec = tie.close (tie.spec Inv-loop μ-loop (λ c. none-seen _) (λ c. search needs) (λ c. search needs) (λ c. search needs)
     (λ c. let turn = c .before .before in
     newline-seen (turn .before .loop .inv) (turn .loop-test .taken) (c .if1 .taken))
     (λ c. search needs)

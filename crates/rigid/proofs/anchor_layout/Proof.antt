@@ -17,8 +17,7 @@ abbrev μ-loop : tie.MeasureT-loop
 μ-loop v so-far₀ at₀ so-far at = length v - at
 
 pub anchor-layout-spec : {M : Type 1} → statement M
-anchor-layout-spec =
-    tie.close (tie.spec Inv-loop μ-loop (λ c κs. search needs) (λ c. all-runs _ (c .inline .ensures)) (λ c κs. search needs)
+anchor-layout-spec = tie.close (tie.spec Inv-loop μ-loop (λ c κs. search needs) (λ c. all-runs _ (c .inline .ensures)) (λ c κs. search needs)
     (λ c. le-of-lt (end-after (c .field-end .ensures) (c .before .loop-test .taken)))
     (λ c. le-of-lt (end-after (c .field-end .ensures) (c .before .loop-test .taken)))
     (λ c. end-within (c .field-end .ensures) (c .before .loop-test .taken)) (λ c κs. search needs)

@@ -5,8 +5,7 @@ use Rattle.rigid.proofs.approx_rigid_layout.Statement.{statement}
 use Rattle.rigid.proofs.approx_rigid_layout.Tie as tie
 
 pub approx-rigid-layout-spec : {M : Type 1} → statement M
-approx-rigid-layout-spec =
-    tie.close (tie.spec (λ c κs. search needs)
+approx-rigid-layout-spec = tie.close (tie.spec (λ c κs. search needs)
     (λ c. no-node _ (c .before .if1 .taken) (c .inline .ensures)) (λ c. search needs) (λ c. search needs) (λ c. search needs) (λ c. search needs)
     (λ c κs. search needs)
     (λ c. a-node _ (c .before .before .before .if1 .left) (c .value-layout .ensures)))

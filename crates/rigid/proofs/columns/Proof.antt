@@ -6,6 +6,5 @@ use Rattle.rigid.proofs.columns.Statement.{statement}
 use Rattle.rigid.proofs.columns.Tie as tie
 
 pub columns-spec : {M : Type 1} → statement M
-columns-spec =
-    tie.close (tie.spec (λ c. no-width _ _ (c .if1 .taken)) (λ c. many-bytes _ _ (c .before .if1 .left) (c .if2 .taken))
+columns-spec = tie.close (tie.spec (λ c. no-width _ _ (c .if1 .taken)) (λ c. many-bytes _ _ (c .before .if1 .left) (c .if2 .taken))
     (λ c. product-fits _ _ (c .if2 .left) (omega arith)) (λ c. too-wide _ _ (c .if3 .taken)) (λ c. search needs) (λ c. so-wide _ _ (c .if3 .left)))

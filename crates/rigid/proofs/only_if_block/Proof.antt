@@ -7,8 +7,7 @@ use Rattle.rigid.proofs.only_if_block.Statement.{statement}
 use Rattle.rigid.proofs.only_if_block.Tie as tie
 
 pub only-if-block-spec : {M : Type 1} → statement M
-only-if-block-spec =
-    tie.close (tie.spec (λ c κs. search needs) (λ c κs. search needs)
+only-if-block-spec = tie.close (tie.spec (λ c κs. search needs) (λ c κs. search needs)
     (λ c. only-block _ (lines _ (c .before .before .is-block .ensures) refl refl (c .before .if1 .taken)) (c .inline .ensures)) (λ c κs. search needs)
     (λ c κs. search needs)
     (λ c. only-inline _ (line _ (c .before .before .before .is-block .ensures) (c .before .first .ensures) refl (c .before .before .if1 .left)) (c .inline2 .ensures)))

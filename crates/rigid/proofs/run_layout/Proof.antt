@@ -8,8 +8,7 @@ use Rattle.rigid.proofs.run_layout.Statement.{statement}
 use Rattle.rigid.proofs.run_layout.Tie as tie
 
 pub run-layout-spec : {M : Type 1} → statement M
-run-layout-spec =
-    tie.close (tie.spec (λ c κs. search needs) (λ c. search needs) (λ c κs. search needs)
+run-layout-spec = tie.close (tie.spec (λ c κs. search needs) (λ c. search needs) (λ c κs. search needs)
     (λ c. no-run _ (c .before .before .field-at .ensures)
     (λ t from to e. ⊎-elim (λ k. omega arith) (λ k. omega arith) (rw e at (c .before .match .keys2))) (c .inline .ensures))
     (λ c. whole-inside _ _ _ _ _ _ (c .before .before .before .before .field-at .ensures) (c .before .before .tag .given .1) .rising)

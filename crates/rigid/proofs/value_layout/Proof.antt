@@ -5,8 +5,7 @@ use Rattle.rigid.proofs.value_layout.Statement.{statement}
 use Rattle.rigid.proofs.value_layout.Tie as tie
 
 pub value-layout-spec : {M : Type 1} → statement M
-value-layout-spec =
-    tie.close (tie.spec (λ c κs. search needs) (λ c κs. search needs) (λ c κs. search needs) (λ c κs. search needs) (λ c κs. search needs)
+value-layout-spec = tie.close (tie.spec (λ c κs. search needs) (λ c κs. search needs) (λ c κs. search needs) (λ c κs. search needs) (λ c κs. search needs)
     (λ c κs. search needs) (λ c κs. search needs) (λ c κs. search needs)
     (λ c. tag-1 _ (c .before .match .keys1) (c .run-layout .ensures))
     (λ c. tag-2 _ (c .before .match .keys2) (c .anchor-layout .ensures))

@@ -7,8 +7,7 @@ use Rattle.shapes.proofs.append_to_block.Statement.{statement}
 use Rattle.shapes.proofs.append_to_block.Tie as tie
 
 pub append-to-block-spec : {M : Type 1} → statement M
-append-to-block-spec =
-    tie.close (tie.spec (λ c κs. search needs) (λ c κs. search needs) (λ c κs. search needs)
+append-to-block-spec = tie.close (tie.spec (λ c κs. search needs) (λ c κs. search needs) (λ c κs. search needs)
     (λ c. block-block _ _ (lines _ (c .before .before .before .is-block .ensures) refl (c .before .second .ensures) (c .before .before .if1 .taken)) (c .block-or-mixed .ensures))
     (λ c κs. search needs) (λ c κs. search needs) (λ c κs. search needs)
     (λ c. block-inline _ _ (line _ (c .before .before .before .before .is-block .ensures) (c .before .before .first .ensures) refl (c .before .before .before .if1 .left)) (c .before .saturating-add .ensures) (c .block-or-mixed2 .ensures)))

@@ -13,7 +13,6 @@ abbrev μ-loop : tie.MeasureT-loop
 μ-loop s at₀ at = length s - at
 
 pub tell-bytes-spec : {M : Type 1} → statement M
-tell-bytes-spec =
-    tie.close (tie.spec Inv-loop μ-loop (λ c. search needs) (λ c. search needs) (λ c κs. search needs) (λ c. omega arith) (λ c. search needs)
+tell-bytes-spec = tie.close (tie.spec Inv-loop μ-loop (λ c. search needs) (λ c. search needs) (λ c κs. search needs) (λ c. omega arith) (λ c. search needs)
     (λ c. record { fits = omega (arith, c .shared-slice-known2 .given (c .before .before .loop .at)) }) (λ c κs. search needs) (λ c. search needs)
     (λ c. omega arith) (λ c. omega arith) (λ c. search needs))

@@ -14,8 +14,7 @@ abbrev μ-loop : tie.MeasureT-loop
 μ-loop v at₀ at = length v - at
 
 pub first-line-end-spec : {M : Type 1} → statement M
-first-line-end-spec =
-    tie.close (tie.spec Inv-loop μ-loop (λ c κs. search needs) (λ c. c .skip .ensures) (λ c. search needs)
+first-line-end-spec = tie.close (tie.spec Inv-loop μ-loop (λ c κs. search needs) (λ c. c .skip .ensures) (λ c. search needs)
     (λ c. found (c .before .before .before .loop .inv) (c .before .before .loop-test .taken) (c .if1 .taken)) (λ c. search needs) (λ c. search needs)
     (λ c. passed (c .before .before .before .loop .inv) (c .before .before .loop-test .taken) (c .if1 .left))
     (λ c. none-found (c .before .loop .inv) (c .loop-test .left)))

@@ -15,8 +15,7 @@ abbrev μ-loop : tie.MeasureT-loop
 μ-loop v found₀ i₀ found i = length v - i
 
 pub has-newline-spec : {M : Type 1} → statement M
-has-newline-spec =
-    tie.close (tie.spec Inv-loop μ-loop (λ c. none-looked _) (λ c. search needs) (λ c. search needs) (λ c. search needs)
+has-newline-spec = tie.close (tie.spec Inv-loop μ-loop (λ c. none-looked _) (λ c. search needs) (λ c. search needs) (λ c. search needs)
     (λ c. let turn = c .before .before in
     ⊎-elim (λ h. there (turn .before .loop .inv) (omega arith) (h .0 .taken) (h .1))
     (λ h. not-there (turn .before .loop .inv) (omega arith) (h .0 .left) (h .1)) (c .if1 .came))

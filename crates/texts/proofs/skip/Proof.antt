@@ -15,8 +15,7 @@ abbrev μ-loop : tie.MeasureT-loop
 μ-loop v at₀ at = length v - at
 
 pub skip-spec : {M : Type 1} → statement M
-skip-spec =
-    tie.close (tie.spec Inv-loop μ-loop (λ c. none-passed _) (λ c. search needs) (λ c. search needs) (λ c. search needs) (λ c. search needs)
+skip-spec = tie.close (tie.spec Inv-loop μ-loop (λ c. none-passed _) (λ c. search needs) (λ c. search needs) (λ c. search needs) (λ c. search needs)
     (λ c. search needs) (λ c κs. simp (length-take, length-drop) (omega arith)) (λ c. c .before .before .before .before .loop .inv) (λ c. search needs)
     (λ c. let turn = c .before .before .before in
     chunk-passed (turn .before .loop .inv) 32 (turn .loop-test .taken) (c .before .has-newline .ensures) (c .if1 .left))

@@ -15,7 +15,6 @@ abbrev μ-loop : tie.MeasureT-loop
 μ-loop s all₀ i₀ all i = length s - i
 
 pub all-bits-spec : {M : Type 1} → statement M
-all-bits-spec =
-    tie.close (tie.spec Inv-loop μ-loop (λ c. unfold all-bits in (search needs, refl)) (λ c. search needs) (λ c. search needs) (λ c. search needs)
+all-bits-spec = tie.close (tie.spec Inv-loop μ-loop (λ c. unfold all-bits in (search needs, refl)) (λ c. search needs) (λ c. search needs) (λ c. search needs)
     (λ c. (search needs, one-or _ _ _ (c .before .before .loop .inv .1) (c .before .loop-test .taken)))
     (λ c. all-or _ _ _ (c .before .loop .inv .1) (c .loop-test .left)))

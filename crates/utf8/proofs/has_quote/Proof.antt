@@ -15,8 +15,7 @@ abbrev μ-loop : tie.MeasureT-loop
 μ-loop s i₀ i = length s - i
 
 pub has-quote-spec : {M : Type 1} → statement M
-has-quote-spec =
-    tie.close (tie.spec Inv-loop μ-loop (λ c. (search needs, refl)) (λ c. search needs)
+has-quote-spec = tie.close (tie.spec Inv-loop μ-loop (λ c. (search needs, refl)) (λ c. search needs)
     (λ c. let turn = c .before .before in
     found _ _ _ (turn .before .loop .inv .1) (turn .loop-test .taken) (c .if1 .taken))
     (λ c. search needs) (λ c. search needs)

@@ -1,7 +1,7 @@
 -- `writing::put` meets its contract: within the page the byte is stored, past its end it is dropped.
 use mathlib.Core.Logic.{⊎-elim}
 use borrow.Author.Needs.{needs}
-use Rattle.writing.specs.Laws.{kept}
+use Rattle.writing.proofs.Laws.{kept}
 use Rattle.writing.proofs.Turns.{stored, dropped}
 use Rattle.writing.proofs.put.Statement.{statement}
 use Rattle.writing.proofs.put.Tie as tie

@@ -5,7 +5,7 @@ use native.Mathlib.Omega.{arith}
 use lib.ListN.{length-take, length-drop}
 use lib.Seq.{length-take-le}
 use borrow.Author.Needs.{needs}
-use Rattle.writing.specs.Laws.{kept}
+use Rattle.writing.proofs.Laws.{kept}
 use Rattle.writing.proofs.Parts.{all-fits, some-fits, past-the-end}
 use Rattle.writing.proofs.put_bytes.Statement.{statement}
 use Rattle.writing.proofs.put_bytes.Tie as tie

@@ -3,7 +3,7 @@ use mathlib.Core.Logic.{⊎-elim}
 use native.Mathlib.Omega.{arith}
 use lib.ListN.{length-replicate}
 use borrow.Author.Needs.{needs}
-use Rattle.writing.specs.Laws.{kept}
+use Rattle.writing.proofs.Laws.{kept}
 use Rattle.writing.proofs.Parts.{all-spaces-fit, some-spaces-fit, past-the-end}
 use Rattle.writing.proofs.put_spaces.Statement.{statement}
 use Rattle.writing.proofs.put_spaces.Tie as tie

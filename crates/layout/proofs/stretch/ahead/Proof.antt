@@ -21,8 +21,7 @@ abbrev μ-loop : tie.MeasureT-loop
 μ-loop s from so-far layout₀ at₀ layout at = length s - at
 
 pub ahead-spec : {M : Type 1} → statement M
-ahead-spec =
-    tie.close (tie.spec Inv-loop μ-loop (λ c. ahead-starts _ _ _) (λ c κs. omega arith)
+ahead-spec = tie.close (tie.spec Inv-loop μ-loop (λ c. ahead-starts _ _ _) (λ c κs. omega arith)
     (λ c. le-of-lt (end-after (c .field-end .ensures) (c .before .loop-test .taken)))
     (λ c. le-of-lt (end-after (c .field-end .ensures) (c .before .loop-test .taken)))
     (λ c. end-within (c .field-end .ensures) (c .before .loop-test .taken)) (λ c κs. search needs) (λ c κs. search needs) (λ c κs. search needs)

@@ -6,7 +6,6 @@ use Rattle.layout.proofs.stretch.behind.Statement.{statement}
 use Rattle.layout.proofs.stretch.behind.Tie as tie
 
 pub behind-spec : {M : Type 1} → statement M
-behind-spec =
-    tie.close (tie.spec (λ c κs. search needs) (λ c κs. search needs)
+behind-spec = tie.close (tie.spec (λ c κs. search needs) (λ c κs. search needs)
     (λ c. unfold said-stretch in behind-block _ _ _ (c .before .before .if1 .taken) (c .before .block-or-mixed .ensures) (c .append .ensures))
     (λ c. unfold said-stretch in behind-other _ _ _ (c .if1 .left)))

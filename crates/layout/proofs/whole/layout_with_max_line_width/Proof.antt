@@ -9,8 +9,7 @@ use Rattle.layout.proofs.whole.layout_with_max_line_width.Statement.{st
 use Rattle.layout.proofs.whole.layout_with_max_line_width.Tie as tie
 
 pub layout-with-max-line-width-spec : {M : Type 1} → statement M
-layout-with-max-line-width-spec =
-    tie.close (tie.spec
+layout-with-max-line-width-spec = tie.close (tie.spec
     (λ c. unfold said refusal in long-outcome _ _ (c .if1 .taken))
     (λ c. unfold said refusal in wide-outcome _ _ (c .before .if1 .left) (c .if2 .taken)) (λ c κs. search needs) (λ c. search needs) (λ c. search needs)
     (λ c. search needs)
