@@ -5,7 +5,8 @@ use native.Mathlib.Omega.{arith}
 use lib.ListN.{length}
 use borrow.Author.Needs.{needs}
 use Rattle.styles.specs.Said.{said-styles}
-use Rattle.styles.proofs.Reading.{Left, whole-inside, all-left, next-left, stopped, ended}
+use Rattle.styles.proofs.Reading.{Left, all-left, next-left, stopped, ended}
+use Rattle.fields.proofs.Laws.{whole-inside, rises, ends}
 use Rattle.styles.proofs.read_styles.Statement.{statement}
 use Rattle.styles.proofs.read_styles.Tie as tie
 
@@ -21,9 +22,7 @@ read-styles-spec =
     (λ c. stopped _ _ _ _ (c .before .field-at .ensures)
     (λ t from to e. ⊎-elim (λ k. omega arith) (λ k. omega arith) (rw e at (c .match .keys2)))
     (c .before .before .before .loop .inv))
-    (λ c. whole-inside _ _ _ _ _ _ (c .before .before .before .field-at .ensures) (c .before .tag .given .1) .rising)
-    (λ c. whole-inside _ _ _ _ _ _ (c .before .before .before .field-at .ensures) (c .before .tag .given .1) .rising)
-    (λ c. whole-inside _ _ _ _ _ _ (c .before .before .before .field-at .ensures) (c .before .tag .given .1) .ends) (λ c κs. search needs)
+    (λ c. search rises) (λ c. search rises) (λ c. search ends) (λ c κs. search needs)
     (λ c. let i = whole-inside _ _ _ _ _ _ (c .before .before .before .before .before .field-at .ensures) (c .before .before .before .tag .given .1) in
     omega (arith, i .begins, i .rising, i .ends))
     (λ c. rw (c .with-field .ensures)
