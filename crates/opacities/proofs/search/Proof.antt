@@ -16,8 +16,7 @@ abbrev μ-loop : tie.MeasureT-loop
 μ-loop m u d t₀ places₀ t places = 10 - places
 
 pub search-spec : {M : Type 1} → statement M
-search-spec =
-    tie.close (tie.spec Inv-loop μ-loop (λ c. start)
+search-spec = tie.close (tie.spec Inv-loop μ-loop (λ c. start)
     (λ c κs. let s = c .before .pre .0 in
     record { m-lt = s .m-lt; u-pos = s .u-pos; u-le = s .u-le; d-le = s .d-le; t-le = power-le (c .loop .inv) })
     (λ c. search needs)

@@ -4,6 +4,5 @@ use Rattle.styles.proofs.opacity_allowed.Statement.{statement}
 use Rattle.styles.proofs.opacity_allowed.Tie as tie
 
 pub opacity-allowed-spec : {M : Type 1} → statement M
-opacity-allowed-spec =
-    tie.close (tie.spec (λ c. zero-right _ (c .if1 .taken)) (λ c. low-wrong _ (c .before .if1 .left) (c .if2 .taken))
+opacity-allowed-spec = tie.close (tie.spec (λ c. zero-right _ (c .if1 .taken)) (λ c. low-wrong _ (c .before .if1 .left) (c .if2 .taken))
     (λ c. high-test _ (c .before .if1 .left) (c .if2 .left)))

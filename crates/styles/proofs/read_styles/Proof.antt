@@ -17,8 +17,7 @@ abbrev μ-loop : tie.MeasureT-loop
 μ-loop v st₀ at₀ st at = length v - at
 
 pub read-styles-spec : {M : Type 1} → statement M
-read-styles-spec =
-    tie.close (tie.spec Inv-loop μ-loop (λ c κs. search needs) (λ c. rw (c .none .ensures) (all-left _)) (λ c κs. search needs) (λ c. search needs)
+read-styles-spec = tie.close (tie.spec Inv-loop μ-loop (λ c κs. search needs) (λ c. rw (c .none .ensures) (all-left _)) (λ c κs. search needs) (λ c. search needs)
     (λ c. stopped _ _ _ _ (c .before .field-at .ensures)
     (λ t from to e. ⊎-elim (λ k. omega arith) (λ k. omega arith) (rw e at (c .match .keys2)))
     (c .before .before .before .loop .inv))

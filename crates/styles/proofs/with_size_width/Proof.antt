@@ -7,8 +7,7 @@ use Rattle.styles.proofs.with_size_width.Statement.{statement}
 use Rattle.styles.proofs.with_size_width.Tie as tie
 
 pub with-size-width-spec : {M : Type 1} → statement M
-with-size-width-spec =
-    tie.close (tie.spec (λ c. other-long _ _ (c .if1 .taken)) (λ c. search needs) (λ c. search needs) (λ c. search needs) (λ c. search needs)
+with-size-width-spec = tie.close (tie.spec (λ c. other-long _ _ (c .if1 .taken)) (λ c. search needs) (λ c. search needs) (λ c. search needs) (λ c. search needs)
     (λ c. low-size _ _ (c .before .before .if1 .left) (c .if2 .taken))
     (λ c. not-allowed _ _ (c .before .before .before .if1 .left) (c .before .if2 .left) (c .if3 .taken))
     (λ c. negative-size _ _ (c .before .before .before .before .if1 .left) (c .before .if3 .left) (omega arith) (omega arith))

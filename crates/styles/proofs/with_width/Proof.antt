@@ -6,8 +6,7 @@ use Rattle.styles.proofs.with_width.Statement.{statement}
 use Rattle.styles.proofs.with_width.Tie as tie
 
 pub with-width-spec : {M : Type 1} → statement M
-with-width-spec =
-    tie.close (tie.spec (λ c κs. search needs) (λ c κs. search needs) (λ c κs. search needs)
+with-width-spec = tie.close (tie.spec (λ c κs. search needs) (λ c κs. search needs) (λ c κs. search needs)
     (λ c. rw (c .before .match .keys1) (c .with-size-width .ensures))
     (λ c. rw (c .before .match .keys2) (c .with-script-width .ensures ∙ subscript _ _))
     (λ c. rw (c .before .match .keys3) (c .with-script-width2 .ensures ∙ superscript _ _))

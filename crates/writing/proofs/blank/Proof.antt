@@ -14,8 +14,7 @@ abbrev μ-loop : tie.MeasureT-loop
 μ-loop to₀ i₀ to i = length to₀ - i
 
 pub blank-spec : {M : Type 1} → statement M
-blank-spec =
-    tie.close (tie.spec Inv-loop μ-loop (λ c. none-copied (length-replicate _ _) refl) (λ c. search needs) (λ c. search needs) (λ c. search needs)
+blank-spec = tie.close (tie.spec Inv-loop μ-loop (λ c. none-copied (length-replicate _ _) refl) (λ c. search needs) (λ c. search needs) (λ c. search needs)
     (λ c. let here : c .before .loop .i < length (c .before .before .args .to .now) = search needs in
     one-more (c .before .loop .inv) here _ (getD-replicate _ _ _ _ here))
     (λ c. search needs) (λ c. all-copied (c .before .loop .inv) (search needs)))

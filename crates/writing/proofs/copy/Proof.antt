@@ -14,7 +14,6 @@ abbrev μ-loop : tie.MeasureT-loop
 μ-loop to₀ s i₀ to i = length s - i
 
 pub copy-spec : {M : Type 1} → statement M
-copy-spec =
-    tie.close (tie.spec Inv-loop μ-loop (λ c. none-copied refl (c .pre)) (λ c. search needs) (λ c. search needs) (λ c. search needs) (λ c. search needs)
+copy-spec = tie.close (tie.spec Inv-loop μ-loop (λ c. none-copied refl (c .pre)) (λ c. search needs) (λ c. search needs) (λ c. search needs) (λ c. search needs)
     (λ c. one-more (c .before .before .loop .inv) (c .before .loop-test .taken) _ refl) (λ c. search needs)
     (λ c. all-copied (c .before .loop .inv) (c .loop-test .left)))

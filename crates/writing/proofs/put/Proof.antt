@@ -12,5 +12,4 @@ returns c =
     ⊎-elim (λ w. rw (w .1) (stored _ _ _ e)) (λ w. rw (w .1) (dropped _ _ _ e (w .0 .left))) (c .before .if1 .came)
 
 pub put-spec : {M : Type 1} → statement M
-put-spec =
-    tie.close (tie.spec (λ c. search needs) (λ c κs. search needs) (λ c. kept (returns c)) returns)
+put-spec = tie.close (tie.spec (λ c. search needs) (λ c κs. search needs) (λ c. kept (returns c)) returns)

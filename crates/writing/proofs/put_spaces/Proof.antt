@@ -17,8 +17,7 @@ returns-2 c =
     (c .before .if1 .came)
 
 pub put-spaces-spec : {M : Type 1} → statement M
-put-spaces-spec =
-    tie.close (tie.spec (λ c. search needs) (λ c. search needs) (λ c. search needs) (λ c. search needs) (λ c. search needs) (λ c κs. search needs)
+put-spaces-spec = tie.close (tie.spec (λ c. search needs) (λ c. search needs) (λ c. search needs) (λ c. search needs) (λ c. search needs) (λ c κs. search needs)
     (λ c. search needs) (λ c. search needs)
     (λ c. let put = c .before .before in
     let room = put .before .before in

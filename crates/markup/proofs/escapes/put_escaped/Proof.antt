@@ -20,8 +20,7 @@ returns : tie.Need-returns Inv-loop μ-loop
 returns c = search last-run
 
 pub put-escaped-spec : {M : Type 1} → statement M
-put-escaped-spec =
-    tie.close (tie.spec Inv-loop μ-loop (λ c. (search needs, none-yet)) (λ c κs. search needs) (λ c. search needs) (λ c. search not-back) (λ c. search not-past) (λ c κs. search needs)
+put-escaped-spec = tie.close (tie.spec Inv-loop μ-loop (λ c. (search needs, none-yet)) (λ c κs. search needs) (λ c. search needs) (λ c. search not-back) (λ c. search not-past) (λ c κs. search needs)
     (λ c. kept (returns c)) returns
     (λ c. let f : tie.After-plain-end Inv-loop μ-loop = search in omega (arith, not-past (f .plain-end .ensures) (search))) (λ c κs. search needs)
     (λ c. let f : tie.After-plain-end Inv-loop μ-loop = search in omega (arith, not-past (f .plain-end .ensures) (search)))
