@@ -7,12 +7,7 @@ use borrow.Author.Needs.{needs}
 use Rattle.requests.proofs.fill.Statement.{statement}
 use Rattle.requests.proofs.fill.Tie as tie
 
-abbrev Inv-loop : tie.InvT-loop
-Inv-loop page₀ at₀ page at = (length page ≡ length page₀) × (at ≤ length page₀)
-
-abbrev μ-loop : tie.MeasureT-loop
-μ-loop page₀ at₀ page at = length page₀ - at
-
 pub fill-spec : {M : Type 1} → statement M
-fill-spec = tie.close (tie.spec Inv-loop μ-loop (λ c. (refl, omega arith)) (λ c. search needs) (λ c. search needs) (λ c. search needs) (λ c. search needs)
+fill-spec = tie.close (tie.spec (λ page₀ at₀ page at. (length page ≡ length page₀) × (at ≤ length page₀)) (λ page₀ at₀ page at. length page₀ - at)
+    (λ c. (refl, omega arith)) (λ c. search needs) (λ c. search needs) (λ c. search needs) (λ c. search needs)
     (λ c. search needs) (λ c. search needs))

@@ -9,14 +9,9 @@ use Rattle.styles.proofs.Widths.{Measured, measured-start, measured-nex
 use Rattle.styles.proofs.byte_width_in.Statement.{statement}
 use Rattle.styles.proofs.byte_width_in.Tie as tie
 
-abbrev Inv-loop : tie.InvT-loop
-Inv-loop v w₀ at₀ w at = Measured v at w
-
-abbrev μ-loop : tie.MeasureT-loop
-μ-loop v w₀ at₀ w at = length v - at
-
 pub byte-width-in-spec : {M : Type 1} → statement M
-byte-width-in-spec = tie.close (tie.spec Inv-loop μ-loop (λ c. measured-start _) (λ c κs. search needs) (λ c. search needs)
+byte-width-in-spec = tie.close (tie.spec (λ v w₀ at₀ w at. Measured v at w) (λ v w₀ at₀ w at. length v - at)
+    (λ c. measured-start _) (λ c κs. search needs) (λ c. search needs)
     (λ c. measured-stopped (c .before .before .before .loop .inv) (c .before .field-at .ensures) (λ t from to e. ⊎-elim (λ k. omega arith) (λ k. omega arith) (rw e at (c .match .keys2))))
     (λ c. search rises) (λ c. search rises) (λ c. search ends) (λ c κs. search needs)
     (λ c. let i = whole-inside _ _ _ _ _ _ (c .before .before .before .before .before .field-at .ensures) (c .before .before .before .tag .given .1) in omega (arith, i .begins, i .rising, i .ends))

@@ -10,14 +10,9 @@ use Rattle.fields.proofs.Laws.{whole-inside, rises, ends}
 use Rattle.styles.proofs.read_styles.Statement.{statement}
 use Rattle.styles.proofs.read_styles.Tie as tie
 
-abbrev Inv-loop : tie.InvT-loop
-Inv-loop v st₀ at₀ st at = Left v at (said-styles st)
-
-abbrev μ-loop : tie.MeasureT-loop
-μ-loop v st₀ at₀ st at = length v - at
-
 pub read-styles-spec : {M : Type 1} → statement M
-read-styles-spec = tie.close (tie.spec Inv-loop μ-loop (λ c κs. search needs) (λ c. rw (c .none .ensures) (all-left _)) (λ c κs. search needs) (λ c. search needs)
+read-styles-spec = tie.close (tie.spec (λ v st₀ at₀ st at. Left v at (said-styles st)) (λ v st₀ at₀ st at. length v - at)
+    (λ c κs. search needs) (λ c. rw (c .none .ensures) (all-left _)) (λ c κs. search needs) (λ c. search needs)
     (λ c. stopped _ _ _ _ (c .before .field-at .ensures)
     (λ t from to e. ⊎-elim (λ k. omega arith) (λ k. omega arith) (rw e at (c .match .keys2)))
     (c .before .before .before .loop .inv))

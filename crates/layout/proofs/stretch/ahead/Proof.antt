@@ -13,14 +13,10 @@ use Rattle.layout.proofs.StretchLaws.{Ahead, ahead-starts, ahead-on, ah
 use Rattle.layout.proofs.stretch.ahead.Statement.{statement}
 use Rattle.layout.proofs.stretch.ahead.Tie as tie
 
-abbrev Inv-loop : tie.InvT-loop
-Inv-loop s from so-far layout₀ at₀ layout at = Ahead s (stretch-in from (shape so-far) s) at (shape layout)
-
-abbrev μ-loop : tie.MeasureT-loop
-μ-loop s from so-far layout₀ at₀ layout at = length s - at
-
 pub ahead-spec : {M : Type 1} → statement M
-ahead-spec = tie.close (tie.spec Inv-loop μ-loop (λ c. ahead-starts _ _ _) (λ c κs. omega arith) (λ c. search end-rises) (λ c. search end-rises) (λ c. search end-within)
+ahead-spec = tie.close (tie.spec (λ s from so-far layout₀ at₀ layout at. Ahead s (stretch-in from (shape so-far) s) at (shape layout))
+    (λ s from so-far layout₀ at₀ layout at. length s - at)
+    (λ c. ahead-starts _ _ _) (λ c κs. omega arith) (λ c. search end-rises) (λ c. search end-rises) (λ c. search end-within)
     (λ c κs. search needs) (λ c κs. search needs) (λ c κs. search needs)
     (λ c κs. search needs) (λ c κs. search needs) (λ c κs. search needs)
     (λ c. unfold said-stretch in ahead-stops (c .before .before .before .before .before .before .before .before .before .before .loop .inv) (c .before .before .before .before .before .before .before .before .before .loop-test .taken) (c .before .before .before .before .before .before .before .before .field-end .ensures) (c .before .before .before .before .before .before .approx-rigid-layout .ensures) (lines _ (c .before .before .before .before .before .is-block .ensures) (c .before .before .before .first .ensures) (c .second .ensures) (c .before .before .before .before .if1 .taken)) (c .before .before .inline .ensures) (c .before .append .ensures))
