@@ -9,7 +9,7 @@ use lib.Dec.{eqb→eq}
 use Rattle.rules.specs.Bytes.{if_then_else_}
 use Rattle.rules.specs.Lines.{Mark, push, pop, open-anchor, close-anchor, LineOp, mark, Machine, has-text, Item, marked, making, release, spacing, item, step, run}
 use Rattle.rules.specs.Plain.{chars, fill}
-use Rattle.rules.specs.Html.{escape, makes, mark-html, item-html, items-html}
+use Rattle.rules.specs.Html.{escape, mark-html, item-html, items-html}
 use Rattle.rules.specs.Answers.{itself}
 use Rattle.styles.specs.StylesIn.{styles-in}
 use Rattle.writing.specs.Written.{Written}
@@ -31,18 +31,18 @@ unfolding shown copies chars fill
 shown-copies [] = refl
 shown-copies (b ∷ v) = ap (λ (s : List ℕ). b ∷ s) (shown-copies v)
 
-pub other-own : (op : O.LineOp) (v : List ℕ) → (op ≡ O.the-variants.AppendToLine → ⊥) → shown F.the-variants.Plain (own op v) ≡ []
+pub shows-nothing : (op : O.LineOp) (v : List ℕ) {page : List ℕ} {at : ℕ} → (op ≡ O.the-variants.AppendToLine → ⊥) → Written page at (shown F.the-variants.Plain (own op v)) page at
 unfolding own shown chars fill
-other-own O.the-variants.PushIndent v n = refl
-other-own O.the-variants.PopIndent v n = refl
-other-own O.the-variants.PushStyles v n = refl
-other-own O.the-variants.PopStyles v n = refl
-other-own (O.the-variants.PushAnchor d) v n = refl
-other-own O.the-variants.PopAnchor v n = refl
-other-own (O.the-variants.EmptyAnchor d) v n = refl
-other-own O.the-variants.AppendToLine v n = absurd (n refl)
-other-own O.the-variants.StartNewLine v n = refl
-other-own (O.the-variants.BreakIfWithinLine b) v n = refl
+shows-nothing O.the-variants.PushIndent v n = writing.nothing
+shows-nothing O.the-variants.PopIndent v n = writing.nothing
+shows-nothing O.the-variants.PushStyles v n = writing.nothing
+shows-nothing O.the-variants.PopStyles v n = writing.nothing
+shows-nothing (O.the-variants.PushAnchor d) v n = writing.nothing
+shows-nothing O.the-variants.PopAnchor v n = writing.nothing
+shows-nothing (O.the-variants.EmptyAnchor d) v n = writing.nothing
+shows-nothing O.the-variants.AppendToLine v n = absurd (n refl)
+shows-nothing O.the-variants.StartNewLine v n = writing.nothing
+shows-nothing (O.the-variants.BreakIfWithinLine b) v n = writing.nothing
 
 -- ---- in HTML
 
@@ -53,11 +53,6 @@ html is = shown F.the-variants.Html is
 pub html-mark : (k : Mark ℕ) → html (marked k ∷ []) ≡ fill itself (mark-html k)
 unfolding shown items-html item-html
 html-mark k = ap (fill itself) (append-nil (mark-html k))
-
-pub fill-makes : (bs : List ℕ) → fill itself (makes bs) ≡ bs
-unfolding fill makes
-fill-makes [] = refl
-fill-makes (b ∷ bs) = ap (λ (s : List ℕ). b ∷ s) (fill-makes bs)
 
 pub shows-both : (v : List ℕ) (d : Bool) {page page₁ page₂ : List ℕ} {at b r : ℕ} → Written page at (fill itself (mark-html (open-anchor d v))) page₁ b
     → Written page₁ b (fill itself (mark-html {X = ℕ} close-anchor)) page₂ r → Written page at (html (own (O.the-variants.EmptyAnchor d) v)) page₂ r

@@ -32,8 +32,7 @@ use Rattle.pages.specs.declared.pen.Pen.{Pen}
 use Rattle.pages.proofs.OfTrees.{ops-tree}
 use Rattle.pages.proofs.PageLengths.{plain-short}
 use Rattle.pages.proofs.HtmlLengths.{body-short, document-short}
-use Rattle.pages.proofs.Running.{fill-append}
-use Rattle.pages.proofs.Pens.{fill-makes}
+use Rattle.markup.proofs.Fills.{fill-append, fill-makes}
 
 -- ---- the pen over a whole file
 

@@ -2,8 +2,9 @@
 use mathlib.Core.Logic.{⊎-elim}
 use native.Mathlib.Omega.{arith}
 use Rattle.pages.specs.Ran.{IsMark}
-use Rattle.pages.proofs.Running.{kept, pushed-styles}
-use Rattle.pages.proofs.LeafLaws.{rises, ends, no-text, plain-text, cut-text, styled-text}
+use Rattle.pages.proofs.Running.{kept, quietly}
+use Rattle.pages.proofs.LeafLaws.{no-text, plain-text, cut-text, styled-text}
+use Rattle.fields.proofs.Laws.{rises, ends}
 use borrow.Author.Needs.{needs}
 use Rattle.pages.proofs.leaves.render_text.Statement.{statement}
 use Rattle.pages.proofs.leaves.render_text.Tie as tie
@@ -32,8 +33,8 @@ render-text-spec = tie.close (tie.spec (λ c κs. search needs) (λ c. search ne
     (λ c κs. let i : tie.Else1 = search in let s : tie.Start = search in (omega (arith, s .pre), tt))
     (λ c. search rises) (λ c. search rises) (λ c. search ends)
     (λ c κs. let a : tie.After-interpret-mark = search in let i : tie.Else1 = search in let s : tie.Start = search in
-    omega (arith, pushed-styles (a .interpret-mark .ensures) .indent-kept, s .pre))
+    omega (arith, quietly (a .interpret-mark .ensures) tt .indent-kept, s .pre))
     (λ c. search rises) (λ c. search rises) (λ c. search ends)
     (λ c κs. let b : tie.After-render-bytes2 = search in let a : tie.After-interpret-mark = search in let i : tie.Else1 = search in let s : tie.Start = search in
-    (omega (arith, b .render-bytes2 .ensures .indent-kept, pushed-styles (a .interpret-mark .ensures) .indent-kept, s .pre), tt))
+    (omega (arith, b .render-bytes2 .ensures .indent-kept, quietly (a .interpret-mark .ensures) tt .indent-kept, s .pre), tt))
     (λ c. kept (returns-4 c)) returns-4)

@@ -7,7 +7,8 @@ use Rattle.rules.specs.Plain.{fill}
 use Rattle.rules.specs.Html.{mark-html, items-html}
 use Rattle.lines.specs.Said.{copies, own}
 use Rattle.pages.specs.Ran.{shown}
-use Rattle.pages.proofs.Pens.{html-mark, fill-makes}
+use Rattle.markup.proofs.Fills.{fill-makes}
+use Rattle.pages.proofs.Pens.{html-mark}
 use borrow.Author.Needs.{needs}
 use Rattle.pages.proofs.pen.put_html.Statement.{statement}
 use Rattle.pages.proofs.pen.put_html.Tie as tie

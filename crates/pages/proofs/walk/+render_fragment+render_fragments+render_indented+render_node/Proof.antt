@@ -3,10 +3,11 @@ use native.Mathlib.Omega.{arith}
 use lib.ListN.{length}
 use borrow.Author.Needs.{needs}
 use Rattle.parts.proofs.Spans.{end-rises, end-within, end-less}
-use Rattle.pages.specs.OpsIn.{node-in}
-use Rattle.pages.proofs.Running.{kept, deeper, broke}
-use Rattle.pages.proofs.Going.{Going, going-starts, going-more}
-use Rattle.pages.proofs.WalkLaws.{node-short, node-too-deep, node-three, node-four, node-leaf, no-three, a-three, fragment-ops, fragment-more, fragments-end, nodes-end}
+use borrow.Author.Tests.{le-leb, lt-leb}
+use Rattle.pages.specs.OpsIn.{node-by, fragments-by, node-in, three-in, fragment-in}
+use Rattle.pages.proofs.Running.{nothing, and-then, kept, quietly, deeper}
+use Rattle.pages.proofs.Going.{Going, going-starts, going-more, going-ends}
+use Rattle.pages.proofs.WalkLaws.{four-in, node-is, node-four, node-leaf, a-three, fragment-ops}
 use Prim.Native.Nat.{ℕ, _+_, _*_, _-_}
 use borrow.Fn.PlainCycle.{Measures}
 use Rattle.fields.proofs.Cycles.{at, below}
@@ -61,7 +62,7 @@ pub +render-fragment+render-fragments+render-indented+render-node-spec : {M : Ty
     (λ c. search end-less)
     (λ c. going-more (c .before .before .before .before .before .before .before .loop .inv) (c .before .before .before .before .before .before .loop-test .taken) (c .before .before .before .before .before .field-end .ensures) (c .before .before .render-node .ensures))
     (λ c. kept (c .before .loop .inv .rendered))
-    (λ c. nodes-end _ _ (c .before .loop .inv) (c .loop-test .left)))
+    (λ c. unfold fragment-in in going-ends (c .before .loop .inv) (c .loop-test .left)))
     (λ t. render-fragments-lts.spec
     (field-end-reads.Asked, field-end-reads.Learnt, below 2 render-fragment-kinds.ps μ-render-fragment render-fragment.Pre t, render-fragment.Post, end-fragment-reads.Asked, end-fragment-reads.Learnt)
     (at 2 render-fragments-kinds.ps μ-render-fragments render-fragments.Pre t) render-fragments.Post
@@ -71,28 +72,28 @@ pub +render-fragment+render-fragments+render-indented+render-node-spec : {M : Ty
     (λ c κs. (omega (arith, c .before .before .before .before .before .before .before .pre .0), omega (arith, c .before .before .before .before .loop .inv .rendered .indent-kept, c .before .before .before .before .before .before .before .pre .1)))
     (λ c κs. omega (arith, c .before .before .before .render-fragment .ensures .indent-kept, c .before .before .before .before .before .before .before .before .loop .inv .rendered .indent-kept, c .before .before .before .before .before .before .before .before .before .before .before .pre .1))
     (λ c. search end-less)
-    (λ c. fragment-more _ _ (c .before .before .before .before .before .before .before .before .before .before .before .loop .inv) (c .before .before .before .before .before .before .before .before .before .before .loop-test .taken) (c .before .before .before .before .before .before .before .before .before .field-end .ensures) (c .before .before .before .before .before .before .render-fragment .ensures) (c .before .before .end-fragment .ensures))
+    (λ c. unfold fragment-in fragment-ops in going-more (c .before .before .before .before .before .before .before .before .before .before .before .loop .inv) (c .before .before .before .before .before .before .before .before .before .before .loop-test .taken) (c .before .before .before .before .before .before .before .before .before .field-end .ensures) (and-then (c .before .before .before .before .before .before .render-fragment .ensures) (c .before .before .end-fragment .ensures)))
     (λ c. kept (c .before .loop .inv .rendered))
-    (λ c. fragments-end _ _ (c .before .loop .inv) (c .loop-test .left)))
+    (λ c. unfold fragments-by fragment-ops in going-ends (c .before .loop .inv) (c .loop-test .left)))
     (λ t. render-indented-lts.spec
     (interpret-reads.Asked, interpret-reads.Learnt, below 2 render-fragments-kinds.ps μ-render-fragments render-fragments.Pre t, render-fragments.Post)
     (at 2 render-indented-kinds.ps μ-render-indented render-indented.Pre t) render-indented.Post
-    (λ c. no-three _ _ (c .if1 .taken)) (λ c. search needs)
+    (λ c. unfold three-in in rw (c .if1 .taken) nothing) (λ c. search needs)
     (λ c κs. omega (arith, c .before .before .before .before .before .pre .1)) (λ c. search needs)
     (λ c κs. omega (arith, deeper (c .before .before .before .before .interpret .ensures), c .before .before .before .before .before .before .before .before .before .before .pre .1))
     (λ c. omega arith)
-    (λ c κs. (omega (arith, c .before .before .before .before .before .before .before .before .before .before .before .before .before .before .pre .0), omega (arith, broke (c .before .before .before .interpret2 .ensures) .indent-kept, deeper (c .before .before .before .before .before .before .before .before .interpret .ensures), c .before .before .before .before .before .before .before .before .before .before .before .before .before .before .pre .1)))
+    (λ c κs. (omega (arith, c .before .before .before .before .before .before .before .before .before .before .before .before .before .before .pre .0), omega (arith, quietly (c .before .before .before .interpret2 .ensures) tt .indent-kept, deeper (c .before .before .before .before .before .before .before .before .interpret .ensures), c .before .before .before .before .before .before .before .before .before .before .before .before .before .before .pre .1)))
     (λ c. search needs)
-    (λ c κs. omega (arith, c .before .before .before .before .render-fragments .ensures .indent-kept, broke (c .before .before .before .before .before .before .before .before .interpret2 .ensures) .indent-kept, deeper (c .before .before .before .before .before .before .before .before .before .before .before .before .before .interpret .ensures), c .before .before .before .before .before .before .before .before .before .before .before .before .before .before .before .before .before .before .before .pre .1))
+    (λ c κs. omega (arith, c .before .before .before .before .render-fragments .ensures .indent-kept, quietly (c .before .before .before .before .before .before .before .before .interpret2 .ensures) tt .indent-kept, deeper (c .before .before .before .before .before .before .before .before .before .before .before .before .before .interpret .ensures), c .before .before .before .before .before .before .before .before .before .before .before .before .before .before .before .before .before .before .before .pre .1))
     (λ c. kept (render-indented-returns-2 t c)) (render-indented-returns-2 t))
     λ t. render-node-lts.spec
     (below 2 render-indented-kinds.ps μ-render-indented render-indented.Pre t, render-indented.Post, below 2 render-fragments-kinds.ps μ-render-fragments render-fragments.Pre t, render-fragments.Post, render-leaf-reads.Asked, render-leaf-reads.Learnt)
     (at 2 render-node-kinds.ps μ-render-node render-node.Pre t) render-node.Post
-    (λ c. node-short _ _ _ (c .if1 .taken)) (λ c. omega arith)
+    (λ c. unfold node-by in rw (node-is, lt-leb _ _ (c .if1 .taken)) nothing) (λ c. omega arith)
     (λ c κs. (omega (arith, c .before .before .before .before .before .before .pre .0), c .before .before .before .before .before .before .pre .1))
     (λ c. kept (c .before .before .render-indented .ensures))
-    (λ c. node-three _ _ _ (c .before .before .before .before .before .before .if1 .left) (c .before .before .before .before .if2 .taken) (c .before .before .render-indented .ensures))
-    (λ c. node-too-deep _ _ _ (c .before .before .before .before .if1 .left) (c .before .if3 .taken) (c .if4 .taken)) (λ c. omega arith)
+    (λ c. unfold node-by in rw (node-is, le-leb _ _ (c .before .before .before .before .before .before .if1 .left), c .before .before .before .before .if2 .taken) (c .before .before .render-indented .ensures))
+    (λ c. unfold node-by four-in in rw (node-is, le-leb _ _ (c .before .before .before .before .if1 .left), c .before .if3 .taken, c .if4 .taken) nothing) (λ c. omega arith)
     (λ c κs. (omega (arith, c .before .before .before .before .before .before .before .before .pre .0), omega (arith, c .before .before .before .before .before .before .before .before .pre .1)))
     (λ c. kept (c .before .before .render-fragments .ensures))
     (λ c. node-four _ _ _ (c .before .before .before .before .before .before .before .before .if1 .left) (c .before .before .before .before .before .if3 .taken) (c .before .before .before .before .if4 .left) (c .before .before .render-fragments .ensures)) (λ c. omega arith) (λ c. omega arith) (λ c. search needs)
