@@ -4,7 +4,7 @@ use Prim.Native.Nat.{_≤_, _-_}
 use lib.ListN.{length}
 use native.Mathlib.Omega.{arith}
 use borrow.Author.Needs.{needs}
-use Rattle.requests.specs.Requests.{file-at}
+use Rattle.requests.proofs.Laws.{file-at}
 use Rattle.replay_layout.proofs.Kept.{kept}
 use Rattle.replay_layout.proofs.replay.Statement.{statement}
 use Rattle.replay_layout.proofs.replay.Tie as tie
