@@ -1,9 +1,14 @@
--- The field at a place, by what is known of the lengths.
-use mathlib.Core.Path.{_≡_}
+-- The field at a place, by what is known of the lengths; where a whole one stands, and what is not whole.
+use mathlib.Core.Path.{_≡_, refl, sym, _∙_}
 use mathlib.Core.List.{List}
+use mathlib.Core.Bool.{Bool, true, false}
 use Prim.Native.Nat.{ℕ, _+_, _<_, _≤_}
+use native.Mathlib.Omega.{arith}
+use lib.Dec.{leb}
 use lib.ListN.{length, getD}
-use borrow.Author.Tests.{le-leb, lt-leb}
+use borrow.Author.Tests.{leb-true, le-leb, lt-leb}
+use Rattle.rules.specs.Bytes.{if_then_else_}
+use Rattle.fields.specs.declared.Field.{Field}
 use Rattle.fields.specs.declared.Field.the-variants.{Whole, Past, Cut}
 use Rattle.fields.specs.FieldAt.{field-at, length-at}
 
@@ -18,3 +23,43 @@ whole s at n e h g = rw (le-leb (at + 3) (length s) h, ← e, le-leb (at + 3 + n
 pub past : (s : List ℕ) (at : ℕ) → at + 3 ≤ length s → length s < at + 3 + length-at s at → Past (getD s at 0) ≡ field-at s at
 unfolding field-at
 past s at h g = rw (le-leb (at + 3) (length s) h, lt-leb (at + 3 + length-at s at) (length s) g)
+
+-- ---- a whole field
+
+-- its value begins behind the place, and ends inside the bytes
+pub record Inside (s : List ℕ) (at from to : ℕ) : Type 0 where
+  pub begins : at < from
+  pub rising : from ≤ to
+  pub ends : to ≤ length s
+
+pub whole-inside : (s : List ℕ) (at t from to : ℕ) (f : Field) → f ≡ field-at s at → f ≡ Whole t from to → Inside s at from to
+unfolding field-at
+whole-inside s at t from to f e w = go (leb (at + 3) (length s)) (leb (at + 3 + length-at s at) (length s)) refl (sym e ∙ w)
+  where
+    go : (b d : Bool) → leb (at + 3 + length-at s at) (length s) ≡ d
+        → (if b then (if d then Whole (getD s at 0) (at + 3) (at + 3 + length-at s at) else Past (getD s at 0)) else Cut) ≡ Whole t from to
+        → Inside s at from to
+    go true true ed e =
+        let f : at + 3 ≡ from = cc in
+        let g : at + 3 + length-at s at ≡ to = cc in
+        let l : at + 3 + length-at s at ≤ length s = leb-true _ _ ed in
+        record { begins = omega arith; rising = omega arith; ends = omega arith }
+    go true false ed e = let z : _≡_ {A = ℕ} 0 1 = cc in absurd (omega arith)
+    go false d ed e = let z : _≡_ {A = ℕ} 0 1 = cc in absurd (omega arith)
+
+pub rises : (s : List ℕ) (at t from to : ℕ) (f : Field) → f ≡ field-at s at → f ≡ Whole t from to → from ≤ to
+rises s at t from to f e w = whole-inside s at t from to f e w .rising
+
+pub ends : (s : List ℕ) (at t from to : ℕ) (f : Field) → f ≡ field-at s at → f ≡ Whole t from to → to ≤ length s
+ends s at t from to f e w = whole-inside s at t from to f e w .ends
+
+-- ---- a field that is not whole
+
+abbrev pub NotWhole : Field → Type 0
+NotWhole f = (t from to : ℕ) → f ≡ Whole t from to → ⊥
+
+-- the others are alike to a function that is
+pub not-whole : {A : Type 0} (g : Field → A) {a : A} → ((t : ℕ) → g (Past t) ≡ a) → g Cut ≡ a → (f : Field) → NotWhole f → g f ≡ a
+not-whole g p c (Whole t from to) n = absurd (n t from to refl)
+not-whole g p c (Past t) n = p t
+not-whole g p c Cut n = c

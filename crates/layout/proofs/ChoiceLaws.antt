@@ -6,18 +6,9 @@ use Prim.Native.Nat.{ℕ, _+_, _-_, _<_, _≤_}
 use lib.ListN.{set}
 use borrow.Author.Tests.{le-leb, lt-leb}
 use Rattle.rules.specs.Bytes.{cap}
-use Rattle.rules.specs.Layout.{Shape, Inline, Block, _⊕_, room}
+use Rattle.rules.specs.Layout.{Shape, Inline, Block, _⊕_}
 use Rattle.parts.specs.Walk.{Is}
 use Rattle.layout.specs.LaidIn.{Laid, kept, decided}
-
-module _ (i b : ℕ) {so-far : Shape} {x y r : ℕ} where
-  pub room-inline : so-far ≡ Inline x y → r ≡ i - x → r ≡ room i b so-far
-  unfolding room
-  room-inline is e = rw is e
-
-  pub room-block : so-far ≡ Block x y → r ≡ b - y → r ≡ room i b so-far
-  unfolding room
-  room-block is e = rw is e
 
 pub kept-indented : (so-far : Shape) (n : ℕ) (s : List ℕ) {x l : Shape} {c : ℕ} → x ≡ Block 0 0 → l ≡ so-far ⊕ x → c ≡ cap (n + 1) → Is (kept false 0 so-far n s) (l, c) (set s 0 3)
 unfolding kept
@@ -27,11 +18,6 @@ kept-indented so-far n s {c = c} e f g = record {
 }
 
 module _ (i : ℕ) (so-far : Shape) {own : Shape} {x y : ℕ} (n : ℕ) (s : List ℕ) where
-  -- a Block does not fit
-  pub decided-block : own ≡ Block x y → {l : Laid} {s′ : List ℕ} → Is (kept false 0 so-far n s) l s′ → Is (decided i so-far own n s) l s′
-  unfolding decided
-  decided-block is h = rw is h
-
   -- a candidate that does not fit
   pub decided-over : own ≡ Inline x y → {c : ℕ} → c ≡ x - y → i < c → {l : Laid} {s′ : List ℕ} → Is (kept false 0 so-far n s) l s′ → Is (decided i so-far own n s) l s′
   unfolding decided kept

@@ -1,46 +1,22 @@
 -- One node's field, laid out: a leaf stays, a block is laid out over the row in it; and a field of a stretch.
 use mathlib.Core.Path.{_≡_, refl, sym, ap, subst, _∙_}
 use mathlib.Core.List.{List, [], _∷_, _++_}
-use mathlib.Core.Bool.{Bool, true, false, _&&_}
+use mathlib.Core.Bool.{Bool, true, false}
 use Prim.Native.Nat.{ℕ, zero, suc, _+_, _-_, _≤_, _<_, max}
 use native.Mathlib.Omega.{arith}
 use lib.Dec.{leb, eqb}
 use lib.ListN.{length, length-append}
-use borrow.Author.Tests.{leb-false, le-leb}
+use borrow.Author.Tests.{le-leb}
 use Rattle.rules.specs.Bytes.{cap}
-use Rattle.rules.specs.Walk.{Fields, in-fragment, is-block}
-use Rattle.rules.specs.Tree.{Leaf, text, anchor, space, force, if-block, Kind, indented, flexible}
 use Rattle.rules.specs.Layout.{Shape, Inline, Block, _⊕_, room, kept-inline, chosen}
 use Rattle.rules.specs.Ahead.{stretch}
-use Rattle.rules.specs.Encode.{field, encode-fields, leaf-fields, block-tag}
-use Rattle.rules.specs.Good.{Good}
-use Rattle.rules.proofs.Turned.{leaf-bytes}
+use Rattle.rules.specs.Encode.{field, block-tag}
 use Rattle.parts.specs.Walk.{here, rest, over}
 use Rattle.parts.proofs.OfFields.{length-field, here-field, rest-field}
 use Rattle.rigid.specs.RigidIn.{rigid-in, by-tag}
 use Rattle.layout.specs.LaidIn.{ahead-in, with-node, with-fragment, fragments-in, kept, decided, node-in, nodes-in, flex-in, fragment-in}
 use Rattle.layout.proofs.Counted.{cap-more, one-unless}
 use Rattle.layout.proofs.Rows.{Laying, Row, tag-changes, same-changes, row-start, over-says, over-field}
-
--- ---- a leaf as a field
-
--- a leaf before x, good at the depth d, is one field, which is no block's and fits
-pub record LeafAt (n : Leaf ℕ) (d : ℕ) (x : Fields ℕ) : Type 0 where
-  pub tag : ℕ
-  pub value : List ℕ
-  pub is : leaf-bytes n ≡ field tag value
-  pub not-3 : eqb tag 3 ≡ false
-  pub not-4 : eqb tag 4 ≡ false
-  pub fits : length value < 65_536
-  pub further : Good in-fragment d tag x
-
-pub leaf-at : (n : Leaf ℕ) (d before : ℕ) (x : Fields ℕ) → Good in-fragment d before (leaf-fields n x) → LeafAt n d x
-unfolding leaf-fields leaf-bytes encode-fields
-leaf-at (text r) d before x G = record { tag = 1; value = _; is = refl; not-3 = refl; not-4 = refl; fits = G .0 .fits; further = G .2 }
-leaf-at (anchor definition a rs) d before x G = record { tag = 2; value = _; is = refl; not-3 = refl; not-4 = refl; fits = G .0 .fits; further = G .2 }
-leaf-at space d before x G = record { tag = 5; value = _; is = refl; not-3 = refl; not-4 = refl; fits = G .0 .fits; further = G .3 }
-leaf-at force d before x G = record { tag = 6; value = _; is = refl; not-3 = refl; not-4 = refl; fits = G .0 .fits; further = G .3 }
-leaf-at (if-block v) d before x G = record { tag = 7; value = v; is = refl; not-3 = refl; not-4 = refl; fits = G .0 .fits; further = G .3 }
 
 -- ---- the rigid layout of a block's field
 
@@ -132,10 +108,3 @@ pub whole-says : (left i b : ℕ) (s s′ : List ℕ) (so so′ : Shape) → ahe
     → fragment-in left i b 0 s ≡ ((so′, cap (R .count)), s′)
 unfolding fragment-in nodes-in over
 whole-says left i b s s′ so so′ e R = rw (e, row-start R (length s) (omega arith))
-
--- a block may be opened only where there is room for one more
-pub room-left : (d left : ℕ) (k : Kind) → (is-block (block-tag k) && leb 32 d) ≡ false → d + left ≡ 32 → (l : ℕ) × (left ≡ suc l) × (suc d + l ≡ 32)
-unfolding is-block block-tag
-room-left d zero indented h e = absurd (omega (arith, leb-false 32 d h))
-room-left d zero flexible h e = absurd (omega (arith, leb-false 32 d h))
-room-left d (suc l) k h e = (l, refl, omega arith)

@@ -15,11 +15,12 @@ use Rattle.rules.specs.Answers.{changed}
 use Rattle.rules.proofs.Typed.{inner-good}
 use Rattle.rules.proofs.Stretches.{cap-min, layout-ahead}
 use Rattle.rules.proofs.Turned.{leaf-bytes, encode-leaf}
+use Rattle.parts.proofs.Leaves.{leaf-at, room-left}
 use Rattle.rigid.specs.RigidIn.{rigid-in}
 use Rattle.layout.specs.LaidIn.{Laid, ahead-in, past-in, with-node, with-fragment, nodes-in, flex-in, fragment-in}
 use Rattle.layout.proofs.Counted.{changed-le}
 use Rattle.layout.proofs.Rows.{Laying, Row, row-nil, row-more, node-turn, fragment-turn}
-use Rattle.layout.proofs.Nodes.{leaf-at, rigid-3, rigid-4, ahead-nil, ahead-field, leaf-laying, block-laying, flexible-laying, fragment-laying, whole-says, room-left}
+use Rattle.layout.proofs.Nodes.{rigid-3, rigid-4, ahead-nil, ahead-field, leaf-laying, block-laying, flexible-laying, fragment-laying, whole-says}
 
 -- given that the rigid layout of a leaf's bytes is the leaf's
 module _ (rigid-leaf : (n : Leaf ℕ) (d before : ℕ) (r : Fields ℕ) → Good in-fragment d before (leaf-fields n r) → rigid-in (leaf-bytes n) ≡ rigid newline n) where

@@ -111,10 +111,6 @@ module _ (st : Stretched) where
     unfolding behind-in
     behind-block e {x} {y} p q = rw (eq-eqb to (st .1 .0) e) (ap (λ (y : Shape). (y, st .1)) (q ∙ ap (λ x. laid ⊕ x) p))
 
-    pub behind-other : (to ≡ st .1 .0 → ⊥) → (laid, st .1) ≡ behind-in st laid to
-    unfolding behind-in
-    behind-other n = rw (ne-eqb to (st .1 .0) n)
-
 -- ---- the Block of a stretch, seen from a node
 
 -- p is the Block that ends the stretch of the fields t, which stand from `at` on

@@ -1,5 +1,4 @@
--- The machine's steps: what comes before an item, breaks, and an operation's whole.
+-- Laws of what comes before an item, and of an operation with its items.
 pub mod Spaces
-pub mod Breaks
 pub mod Steps
 pub mod Determined

@@ -12,12 +12,12 @@ use Rattle.rules.specs.Html.{escape, escaped, item-html, items-html}
 use Rattle.rules.specs.Lines.{char, copied}
 use Rattle.rules.specs.Plain.{fill}
 use Rattle.writing.specs.Written.{Written}
-use Rattle.writing.specs.Laws.{nothing, then}
+use Rattle.writing.proofs.Laws.{nothing, then}
 use Rattle.markup.proofs.Fills.{fill-append, fill-makes}
 
 -- ---- one byte
 
-abbrev escaped-byte : ℕ → List ℕ
+abbrev pub escaped-byte : ℕ → List ℕ
 escaped-byte b = fill itself (escaped (escape b) b)
 
 module _ {page page′ : List ℕ} {at r : ℕ} (b : ℕ) where

@@ -10,9 +10,9 @@ use borrow.Author.Tests.{ne-eqb}
 use Rattle.rules.specs.Html.{Escape, ampersand, less-than, as-it-is, escape, escaped}
 use Rattle.rules.specs.Plain.{fill}
 use Rattle.writing.specs.Written.{Written}
-use Rattle.writing.specs.Laws.{then}
+use Rattle.writing.proofs.Laws.{then}
 use Rattle.markup.specs.Runs.{longer, plain-run, RunsTo}
-use Rattle.markup.proofs.EscapeLaws.{escaped-text, no-bytes, first-byte, escaped-append, all}
+use Rattle.markup.proofs.EscapeLaws.{escaped-byte, escaped-text, more, no-bytes, first-byte, escaped-append, all}
 
 -- ---- one byte
 
@@ -109,3 +109,8 @@ module _ {text : List ℕ} {i end : ℕ} (f : RunsTo text i end) where
     -- all are if it is the last
     pub last-run : end ≡ length text → Written page at (escaped-text text) page″ r
     last-run e = all text end run-written (omega arith)
+
+    -- or the byte behind it, with its escape
+    pub past-run : {page‴ : List ℕ} {r′ : ℕ} → i ≤ length text → (end ≡ length text → ⊥) → Written page″ r (escaped-byte (getD text end 0)) page‴ r′
+        → Written page at (escaped-text (take (end + 1) text)) page‴ r′
+    past-run b n w = more text end run-written (omega (arith, not-past b)) w

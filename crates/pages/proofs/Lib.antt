@@ -9,7 +9,6 @@ pub mod HtmlLengths
 pub mod StateLaws
 pub mod Running
 pub mod Pens
-pub mod Frames
 pub mod Going
 pub mod TextLines
 pub mod LeafLaws

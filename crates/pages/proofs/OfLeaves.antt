@@ -16,19 +16,14 @@ use Rattle.rules.specs.Good.{Good}
 use Rattle.rules.specs.Lines.{styled, text-ops, run-ops, runs-ops, leaf-ops}
 use Rattle.rules.proofs.Typed.{inner-good}
 use Rattle.rules.proofs.Turned.{leaf-bytes}
-use Rattle.fields.proofs.Encoded.{field-here, value-here}
+use Rattle.fields.proofs.Encoded.{field-here}
 use Rattle.styles.specs.StylesIn.{styles-in}
-use Rattle.styles.specs.Sound.{good-styles}
-use Rattle.parts.specs.Walk.{part}
-use Rattle.parts.proofs.OfFields.{length-field}
+use Rattle.styles.proofs.Sound.{good-styles}
+use Rattle.parts.proofs.OfFields.{length-field, part-here}
 use Rattle.pages.specs.OpsIn.{styled-in, run-fields-in, run-in, run-field-in, named-in, anchor-fields-in, anchor-in, if-block-in, leaf-in, node-by, node-in}
 use Rattle.pages.proofs.EachOf.{Gives, gives-nil, gives-more, gives-from, has-header}
 
 -- ---- a text
-
-part-here : (a : List ℕ) (t : ℕ) (v b : List ℕ) → part (a ++ (field t v ++ b)) (length a + 3) (length a + 3 + length v) ≡ v
-unfolding part
-part-here = value-here
 
 run-plain : (v : List ℕ) → length v < 65_536 → run-in (field 17 v ++ []) ≡ text-ops newline v
 unfolding run-in run-fields-in
@@ -109,51 +104,20 @@ unfolding node-in node-by field
 node-leaf zero directly t v p q = rw (has-header t v, p, q)
 node-leaf (suc left) directly t v p q = rw (has-header t v, p, q)
 
--- a leaf before x, good at the depth d, is one field that fits; its operations
-pub record LeafAt (n : Leaf ℕ) (d : ℕ) (x : Fields ℕ) : Type 0 where
-  pub tag : ℕ
-  pub value : List ℕ
-  pub is : leaf-bytes n ≡ field tag value
-  pub fits : length value < 65_536
-  pub further : Good in-fragment d tag x
-  pub says : (left : ℕ) (directly : Bool) → node-in left directly (field tag value) ≡ leaf-ops newline directly n
-
 if-block-says : (directly : Bool) (v : List ℕ) → if-block-in directly v ≡ leaf-ops newline directly (if-block v)
 unfolding if-block-in leaf-ops
 if-block-says true v = refl
 if-block-says false v = refl
 
 -- THE LINE OPERATIONS BY THE BYTES OF A GOOD LEAF ARE THE RULES' ONES
-pub leaf-at : (n : Leaf ℕ) (d before : ℕ) (x : Fields ℕ) → Good in-fragment d before (leaf-fields n x) → LeafAt n d x
+pub leaf-says : (n : Leaf ℕ) (d before : ℕ) (x : Fields ℕ) → Good in-fragment d before (leaf-fields n x) → (left : ℕ) (directly : Bool)
+    → node-in left directly (leaf-bytes n) ≡ leaf-ops newline directly n
 unfolding leaf-fields leaf-bytes encode-fields leaf-in leaf-ops holds
-leaf-at (text r) d before x G = record {
-  tag = 1;
-  value = _;
-  is = refl;
-  fits = G .0 .fits;
-  further = G .2;
-  says = λ left directly.
-      node-leaf left directly 1 _ refl refl ∙ run-good _ r (inner-good 1 d (run-fields (r .style) (r .chars)) in-text refl (G .1));
-}
-leaf-at (anchor definition a rs) d before x G = record {
-  tag = 2;
-  value = _;
-  is = refl;
-  fits = G .0 .fits;
-  further = G .2;
-  says = λ left directly.
-      node-leaf left directly 2 _ refl refl
-      ∙ anchor-good directly _ definition a rs (inner-good 2 d (bytes (anchor-tag definition) a (runs-fields rs)) in-anchor refl (G .1));
-}
-leaf-at space d before x G =
-    record { tag = 5; value = []; is = refl; fits = G .0 .fits; further = G .3; says = λ left directly. node-leaf left directly 5 [] refl refl }
-leaf-at force d before x G =
-    record { tag = 6; value = []; is = refl; fits = G .0 .fits; further = G .3; says = λ left directly. node-leaf left directly 6 [] refl refl }
-leaf-at (if-block v) d before x G = record {
-  tag = 7;
-  value = v;
-  is = refl;
-  fits = G .0 .fits;
-  further = G .3;
-  says = λ left directly. node-leaf left directly 7 v refl refl ∙ if-block-says directly v;
-}
+leaf-says (text r) d before x G left directly =
+    node-leaf left directly 1 _ refl refl ∙ run-good _ r (inner-good 1 d (run-fields (r .style) (r .chars)) in-text refl (G .1))
+leaf-says (anchor definition a rs) d before x G left directly =
+    node-leaf left directly 2 _ refl refl
+    ∙ anchor-good directly _ definition a rs (inner-good 2 d (bytes (anchor-tag definition) a (runs-fields rs)) in-anchor refl (G .1))
+leaf-says space d before x G left directly = node-leaf left directly 5 [] refl refl
+leaf-says force d before x G left directly = node-leaf left directly 6 [] refl refl
+leaf-says (if-block v) d before x G left directly = node-leaf left directly 7 v refl refl ∙ if-block-says directly v

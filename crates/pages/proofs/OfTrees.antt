@@ -1,14 +1,11 @@
 -- The line operations by the bytes of a file are those of its tree.
-use mathlib.Core.Path.{_≡_, refl, ap, _∙_}
+use mathlib.Core.Path.{_≡_, refl, sym, ap, _∙_}
 use mathlib.Core.List.{List, [], _∷_, _++_, append-assoc, append-nil}
-use mathlib.Core.Bool.{Bool, true, false, _&&_}
-use Prim.Native.Nat.{ℕ, zero, suc, _+_}
-use native.Mathlib.Omega.{arith}
-use lib.Dec.{leb}
-use borrow.Author.Tests.{leb-false}
+use mathlib.Core.Bool.{Bool, true, false}
+use Prim.Native.Nat.{ℕ, suc, _+_}
 use Rattle.rules.specs.Bytes.{newline}
 use Rattle.rules.specs.Walk.{in-fragment, in-block, holds, is-block}
-use Rattle.rules.specs.Tree.{Kind, indented, flexible, Frag, stop, leaf, block, Frags, none-left, frag}
+use Rattle.rules.specs.Tree.{indented, flexible, Frag, stop, leaf, block, Frags, none-left, frag}
 use Rattle.rules.specs.Encode.{field, encode-fields, block-tag, frag-fields, frags-fields, encode}
 use Rattle.rules.specs.Good.{Good, GoodTree}
 use Rattle.rules.specs.Lines.{break, a-newline, indent, unindent, ops, indented-ops, inline-ops}
@@ -16,7 +13,8 @@ use Rattle.rules.proofs.Typed.{inner-good}
 use Rattle.rules.proofs.Turned.{encode-leaf}
 use Rattle.pages.specs.OpsIn.{Ops, each-from, node-by, behind-fragment, fragments-by, indented-by, node-in, fragment-in}
 use Rattle.pages.proofs.EachOf.{Gives, gives-nil, gives-more, gives-from, gives-in, has-header}
-use Rattle.pages.proofs.OfLeaves.{leaf-at}
+use Rattle.parts.proofs.Leaves.{leaf-at, room-left}
+use Rattle.pages.proofs.OfLeaves.{leaf-says}
 
 -- ---- a block
 
@@ -49,13 +47,6 @@ node-4 : (left : ℕ) (directly : Bool) (v : List ℕ) {os : Ops} → Gives (one
 unfolding node-in node-by fragments-by field one-fragment
 node-4 left directly v G = rw (has-header 4 v, gives-in (one-fragment left false) 4 v G)
 
--- a block may be opened only where there is room for one more
-room-left : (d left : ℕ) (k : Kind) → (is-block (block-tag k) && leb 32 d) ≡ false → d + left ≡ 32 → (l : ℕ) × (left ≡ suc l) × (suc d + l ≡ 32)
-unfolding is-block block-tag
-room-left d zero indented h e = absurd (omega (arith, leb-false 32 d h))
-room-left d zero flexible h e = absurd (omega (arith, leb-false 32 d h))
-room-left d (suc l) k h e = (l, refl, omega arith)
-
 -- ---- trees
 
 mutual
@@ -68,7 +59,7 @@ mutual
   frag-gives (leaf n r) d before left e G directly =
       let x = leaf-at n d before (frag-fields r) G in
       rw (encode-leaf n (frag-fields r), x .is)
-      (gives-more (node-in left directly) (x .tag) (x .value) (encode-fields (frag-fields r)) (x .fits) (x .says left directly)
+      (gives-more (node-in left directly) (x .tag) (x .value) (encode-fields (frag-fields r)) (x .fits) (ap (node-in left directly) (sym (x .is)) ∙ leaf-says n d before (frag-fields r) G left directly)
       (frag-gives r d (x .tag) left e (x .further) directly))
   frag-gives (block indented fs r) d before left e G directly =
       let (l, is, f) = room-left d left indented (G .0 .not-deep) e in

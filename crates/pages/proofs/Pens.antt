@@ -1,89 +1,48 @@
 -- What the pen writes: a waiting break, a line's spaces, an operation's own bytes, and all of one operation.
 use mathlib.Core.Path.{_≡_, refl, sym, ap, _∙_}
-use mathlib.Core.List.{List, [], _∷_, _++_, map, append-nil}
-use mathlib.Core.Bool.{Bool, true, false}
+use mathlib.Core.List.{List, [], _∷_, _++_, append-nil}
+use mathlib.Core.Bool.{Bool, true}
 use mathlib.Core.Option.{none}
 use Prim.Native.Nat.{ℕ, _/_, _%_}
 use native.Mathlib.Omega.{arith}
 use lib.Dec.{eqb→eq}
-use lib.ListN.{replicate}
 use Rattle.rules.specs.Bytes.{if_then_else_}
-use Rattle.rules.specs.Lines.{Mark, push, pop, open-anchor, close-anchor, LineOp, mark, Machine, has-text, Item, char, marked, copied, making, release, spacing, item, step, run}
+use Rattle.rules.specs.Lines.{Mark, push, pop, open-anchor, close-anchor, LineOp, mark, Machine, has-text, Item, marked, making, release, spacing, item, step, run}
 use Rattle.rules.specs.Plain.{chars, fill}
-use Rattle.rules.specs.Html.{escape, open-tag, close-tag, makes, mark-html, item-html, items-html}
+use Rattle.rules.specs.Html.{escape, mark-html, item-html, items-html}
 use Rattle.rules.specs.Answers.{itself}
-use Rattle.styles.specs.declared.Styles as S
-use Rattle.styles.specs.Said.{said-styles}
 use Rattle.styles.specs.StylesIn.{styles-in}
 use Rattle.writing.specs.Written.{Written}
-use Rattle.writing.specs.Laws as writing
-use Rattle.lines.specs.declared.Break.{Break}
-use Rattle.lines.specs.declared.Waiting as W
+use Rattle.writing.proofs.Laws as writing
 use Rattle.lines.specs.declared.LineOp as O
-use Rattle.lines.specs.declared.Before.{Before}
 use Rattle.lines.specs.declared.Machine as M
 use Rattle.lines.specs.declared.Stepped.{Stepped}
-use Rattle.lines.specs.Said.{machine-of, break-bytes, spacing-bytes, before-bytes, step-of, operation, copies, own}
+use Rattle.lines.specs.Said.{machine-of, before-bytes, step-of, operation, copies, own}
 use Rattle.pages.specs.Ran.{shown, after, machine, form, Ran, IsMark, Interpreted}
 use Rattle.pages.specs.States.{line-numbered, waiting-numbered, form-numbered, machine-in, form-in, quiet}
 use Rattle.pages.specs.declared.state.Form as F
 use Rattle.pages.specs.declared.pen.Pen.{Pen}
 use Rattle.pages.proofs.Running.{shown-append}
 
--- ---- before an item
-
-module _ {page : List ℕ} {at : ℕ} where
-  pub no-break : (w : W.Waiting) → w ≡ W.the-variants.Nothing → Written page at (break-bytes w) page at
-  unfolding break-bytes
-  no-break w e = rw e writing.nothing
-
-  pub space-break : {page′ : List ℕ} {r : ℕ} (w : W.Waiting) → w ≡ W.the-variants.Space → Written page at (32 ∷ []) page′ r → Written page at (break-bytes w) page′ r
-  unfolding break-bytes
-  space-break w e f = rw e f
-
-  pub newline-break : {page′ : List ℕ} {r : ℕ} (w : W.Waiting) → w ≡ W.the-variants.NewLine → Written page at (10 ∷ []) page′ r → Written page at (break-bytes w) page′ r
-  unfolding break-bytes
-  newline-break w e f = rw e f
-
-  pub a-newline-there : {page′ : List ℕ} {r : ℕ} (there : Bool) → there ≡ true → Written page at (10 ∷ []) page′ r → Written page at (if there then 10 ∷ [] else []) page′ r
-  a-newline-there there e f = rw e f
-
-  pub no-newline-there : (there : Bool) → there ≡ false → Written page at (if there then 10 ∷ [] else []) page at
-  no-newline-there there e = rw e writing.nothing
-
-pub all-before : {page page₁ page₂ page₃ : List ℕ} {at b₁ b₂ b₃ : ℕ} (b : Before) → Written page at (break-bytes (b .waiting)) page₁ b₁
-    → Written page₁ b₁ (if b .«new_line» then 10 ∷ [] else []) page₂ b₂ → Written page₂ b₂ (replicate (b .spaces) 32) page₃ b₃
-    → Written page at (before-bytes b) page₃ b₃
-unfolding before-bytes spacing-bytes
-all-before b f g h = writing.then f (writing.then g h)
-
 -- ---- an operation's own bytes on a plain page
 
-shown-copies : (v : List ℕ) → shown F.the-variants.Plain (copies v) ≡ v
+pub shown-copies : (v : List ℕ) → shown F.the-variants.Plain (copies v) ≡ v
 unfolding shown copies chars fill
 shown-copies [] = refl
 shown-copies (b ∷ v) = ap (λ (s : List ℕ). b ∷ s) (shown-copies v)
 
-other-own : (op : O.LineOp) (v : List ℕ) → (op ≡ O.the-variants.AppendToLine → ⊥) → shown F.the-variants.Plain (own op v) ≡ []
+pub shows-nothing : (op : O.LineOp) (v : List ℕ) {page : List ℕ} {at : ℕ} → (op ≡ O.the-variants.AppendToLine → ⊥) → Written page at (shown F.the-variants.Plain (own op v)) page at
 unfolding own shown chars fill
-other-own O.the-variants.PushIndent v n = refl
-other-own O.the-variants.PopIndent v n = refl
-other-own O.the-variants.PushStyles v n = refl
-other-own O.the-variants.PopStyles v n = refl
-other-own (O.the-variants.PushAnchor d) v n = refl
-other-own O.the-variants.PopAnchor v n = refl
-other-own (O.the-variants.EmptyAnchor d) v n = refl
-other-own O.the-variants.AppendToLine v n = absurd (n refl)
-other-own O.the-variants.StartNewLine v n = refl
-other-own (O.the-variants.BreakIfWithinLine b) v n = refl
-
-module _ (op : O.LineOp) (v : List ℕ) {page : List ℕ} {at : ℕ} where
-  pub shows-nothing : (op ≡ O.the-variants.AppendToLine → ⊥) → Written page at (shown F.the-variants.Plain (own op v)) page at
-  shows-nothing n = rw (other-own op v n) writing.nothing
-
-  pub shows-part : {page′ : List ℕ} {r : ℕ} → op ≡ O.the-variants.AppendToLine → Written page at v page′ r → Written page at (shown F.the-variants.Plain (own op v)) page′ r
-  unfolding own
-  shows-part e f = rw (e, shown-copies v) f
+shows-nothing O.the-variants.PushIndent v n = writing.nothing
+shows-nothing O.the-variants.PopIndent v n = writing.nothing
+shows-nothing O.the-variants.PushStyles v n = writing.nothing
+shows-nothing O.the-variants.PopStyles v n = writing.nothing
+shows-nothing (O.the-variants.PushAnchor d) v n = writing.nothing
+shows-nothing O.the-variants.PopAnchor v n = writing.nothing
+shows-nothing (O.the-variants.EmptyAnchor d) v n = writing.nothing
+shows-nothing O.the-variants.AppendToLine v n = absurd (n refl)
+shows-nothing O.the-variants.StartNewLine v n = writing.nothing
+shows-nothing (O.the-variants.BreakIfWithinLine b) v n = writing.nothing
 
 -- ---- in HTML
 
@@ -91,72 +50,15 @@ abbrev html : List (Item ℕ) → List ℕ
 html is = shown F.the-variants.Html is
 
 -- one mark
-html-mark : (k : Mark ℕ) → html (marked k ∷ []) ≡ fill itself (mark-html k)
+pub html-mark : (k : Mark ℕ) → html (marked k ∷ []) ≡ fill itself (mark-html k)
 unfolding shown items-html item-html
 html-mark k = ap (fill itself) (append-nil (mark-html k))
-
-pub fill-makes : (bs : List ℕ) → fill itself (makes bs) ≡ bs
-unfolding fill makes
-fill-makes [] = refl
-fill-makes (b ∷ bs) = ap (λ (s : List ℕ). b ∷ s) (fill-makes bs)
-
-module _ (op : O.LineOp) (v : List ℕ) {page page′ : List ℕ} {at r : ℕ} where
-  pub shows-push : op ≡ O.the-variants.PushStyles → (st : S.Styles) → said-styles st ≡ styles-in v → Written page at (open-tag (said-styles st)) page′ r → Written page at (html (own op v)) page′ r
-  unfolding own mark-html
-  shows-push e st q f = rw (e, html-mark (push (styles-in v)), fill-makes (open-tag (styles-in v)), ← q) f
-
-  pub shows-pop : op ≡ O.the-variants.PopStyles → (st : S.Styles) → said-styles st ≡ styles-in v → Written page at (close-tag (said-styles st)) page′ r → Written page at (html (own op v)) page′ r
-  unfolding own mark-html
-  shows-pop e st q f = rw (e, html-mark (pop (styles-in v)), fill-makes (close-tag (styles-in v)), ← q) f
-
-  pub shows-open : {d : Bool} → op ≡ O.the-variants.PushAnchor d → Written page at (fill itself (mark-html (open-anchor d v))) page′ r → Written page at (html (own op v)) page′ r
-  unfolding own
-  shows-open {d} e f = rw (e, html-mark (open-anchor d v)) f
-
-  pub shows-close : op ≡ O.the-variants.PopAnchor → Written page at (fill itself (mark-html {X = ℕ} close-anchor)) page′ r → Written page at (html (own op v)) page′ r
-  unfolding own
-  shows-close e f = rw (e, html-mark close-anchor) f
-
-  pub shows-empty : {d : Bool} → op ≡ O.the-variants.EmptyAnchor d → Written page at (html (own (O.the-variants.EmptyAnchor d) v)) page′ r → Written page at (html (own op v)) page′ r
-  shows-empty e f = rw e f
-
-  pub shows-escaped : op ≡ O.the-variants.AppendToLine → Written page at (fill itself (items-html escape (map (λ y. char (copied y)) v))) page′ r
-      → Written page at (html (own op v)) page′ r
-  unfolding own shown copies
-  shows-escaped e f = rw e f
-
--- operations that show nothing
-module _ (op : O.LineOp) (v : List ℕ) {page : List ℕ} {at : ℕ} where
-  pub shows-no-indent : op ≡ O.the-variants.PushIndent → Written page at (html (own op v)) page at
-  unfolding own shown items-html fill
-  shows-no-indent e = rw e writing.nothing
-
-  pub shows-no-outdent : op ≡ O.the-variants.PopIndent → Written page at (html (own op v)) page at
-  unfolding own shown items-html fill
-  shows-no-outdent e = rw e writing.nothing
-
-  pub shows-no-line : op ≡ O.the-variants.StartNewLine → Written page at (html (own op v)) page at
-  unfolding own shown items-html fill
-  shows-no-line e = rw e writing.nothing
-
-  pub shows-no-break : {b : Break} → op ≡ O.the-variants.BreakIfWithinLine b → Written page at (html (own op v)) page at
-  unfolding own shown items-html fill
-  shows-no-break e = rw e writing.nothing
 
 pub shows-both : (v : List ℕ) (d : Bool) {page page₁ page₂ : List ℕ} {at b r : ℕ} → Written page at (fill itself (mark-html (open-anchor d v))) page₁ b
     → Written page₁ b (fill itself (mark-html {X = ℕ} close-anchor)) page₂ r → Written page at (html (own (O.the-variants.EmptyAnchor d) v)) page₂ r
 unfolding own
 shows-both v d f g =
     rw (shown-append F.the-variants.Html (marked (open-anchor d v) ∷ []) (marked close-anchor ∷ []), html-mark (open-anchor d v), html-mark close-anchor) (writing.then f g)
-
--- ---- by the form
-
-module _ {form : F.Form} (is : List (Item ℕ)) {page page′ : List ℕ} {at r : ℕ} where
-  pub in-plain : form ≡ F.the-variants.Plain → Written page at (shown F.the-variants.Plain is) page′ r → Written page at (shown form is) page′ r
-  in-plain e f = rw e f
-
-  pub in-html : form ≡ F.the-variants.Html → Written page at (shown F.the-variants.Html is) page′ r → Written page at (shown form is) page′ r
-  in-html e f = rw e f
 
 -- ---- one operation
 

@@ -1,19 +1,17 @@
 -- Running operations: one after the other, with the indent kept or not.
 use mathlib.Core.Path.{_≡_, refl, sym, ap, _∙_}
 use mathlib.Core.List.{List, [], _∷_, _++_, append-assoc}
-use mathlib.Core.Bool.{Bool}
 use Prim.Native.Nat.{ℕ, suc, pred}
 use lib.ListN.{length}
 use Rattle.rules.specs.Lines as rules
-use Rattle.rules.specs.Lines.{Machine, Out, Item, char, made, copied, marked, LineOp, part, mark, push, pop, open-anchor, close-anchor, empty-anchor, new-line, break, step, run, item, ignored}
+use Rattle.rules.specs.Lines.{Machine, Out, Item, char, made, copied, marked, LineOp, step, run, item, ignored}
 use Rattle.rules.specs.Plain.{chars, fill}
 use Rattle.rules.specs.Html.{escape, item-html, items-html}
 use Rattle.rules.specs.Answers.{itself}
-use Rattle.writing.specs.Laws as writing
+use Rattle.writing.proofs.Laws as writing
+use Rattle.markup.proofs.Fills.{fill-append}
 use Rattle.lines.specs.Said.{break-of, operation}
-use Rattle.lines.specs.declared.Break.{Break}
-use Rattle.styles.specs.StylesIn.{styles-in}
-use Rattle.lines.specs.declared.LineOp.the-variants as Op
+use Rattle.lines.specs.declared.LineOp as Op
 use Rattle.pages.specs.OpsIn.{Ops}
 use Rattle.pages.specs.Ran.{shown, after, machine, form, indent-of, Ran, Interpreted, Rendered}
 use Rattle.pages.specs.declared.state.Form as F
@@ -28,12 +26,6 @@ chars-append [] ys = refl
 chars-append (char (made b) ∷ xs) ys = ap (λ (s : List ℕ). b ∷ s) (chars-append xs ys)
 chars-append (char (copied x) ∷ xs) ys = ap (λ (s : List ℕ). x ∷ s) (chars-append xs ys)
 chars-append (marked k ∷ xs) ys = chars-append xs ys
-
-pub fill-append : (os ps : List (Out ℕ)) → fill itself (os ++ ps) ≡ fill itself os ++ fill itself ps
-unfolding fill
-fill-append [] ps = refl
-fill-append (made b ∷ os) ps = ap (λ (s : List ℕ). b ∷ s) (fill-append os ps)
-fill-append (copied x ∷ os) ps = ap (λ (s : List ℕ). x ∷ s) (fill-append os ps)
 
 html-append : (xs ys : List (Item ℕ)) → items-html escape (xs ++ ys) ≡ items-html escape xs ++ items-html escape ys
 unfolding items-html
@@ -93,25 +85,31 @@ by f e = rw e at f
 
 -- ---- one operation that keeps the indent
 
-abbrev Quiet : LineOp ℕ → Type 0
-Quiet (part v) = Unit {0}
-Quiet (mark k) = Unit {0}
-Quiet (empty-anchor d a) = Unit {0}
-Quiet new-line = Unit {0}
-Quiet (break b) = Unit {0}
-Quiet rules.indent = ⊥
-Quiet rules.unindent = ⊥
+abbrev Quiet : Op.LineOp → Type 0
+Quiet Op.the-variants.PushIndent = ⊥
+Quiet Op.the-variants.PopIndent = ⊥
+Quiet Op.the-variants.PushStyles = Unit {0}
+Quiet Op.the-variants.PopStyles = Unit {0}
+Quiet (Op.the-variants.PushAnchor d) = Unit {0}
+Quiet Op.the-variants.PopAnchor = Unit {0}
+Quiet (Op.the-variants.EmptyAnchor d) = Unit {0}
+Quiet Op.the-variants.AppendToLine = Unit {0}
+Quiet Op.the-variants.StartNewLine = Unit {0}
+Quiet (Op.the-variants.BreakIfWithinLine b) = Unit {0}
 
-level-kept : (m : Machine) (o : LineOp ℕ) → Quiet o → step m o .1 .level ≡ m .level
-unfolding step item
-level-kept m (part []) q = refl
-level-kept m (part (x ∷ v)) q = refl
-level-kept m (mark k) q = refl
-level-kept m (empty-anchor d a) q = refl
-level-kept m new-line q = refl
-level-kept m (break b) q = broken-level (ignored (m .level) (m .line)) m b
-level-kept m rules.indent q = absurd q
-level-kept m rules.unindent q = absurd q
+level-kept : (m : Machine) (op : Op.LineOp) (v : List ℕ) → Quiet op → step m (operation op v) .1 .level ≡ m .level
+unfolding operation step item
+level-kept m Op.the-variants.PushIndent v q = absurd q
+level-kept m Op.the-variants.PopIndent v q = absurd q
+level-kept m Op.the-variants.PushStyles v q = refl
+level-kept m Op.the-variants.PopStyles v q = refl
+level-kept m (Op.the-variants.PushAnchor d) v q = refl
+level-kept m Op.the-variants.PopAnchor v q = refl
+level-kept m (Op.the-variants.EmptyAnchor d) v q = refl
+level-kept m Op.the-variants.AppendToLine [] q = refl
+level-kept m Op.the-variants.AppendToLine (x ∷ v) q = refl
+level-kept m Op.the-variants.StartNewLine v q = refl
+level-kept m (Op.the-variants.BreakIfWithinLine b) v q = broken-level (ignored (m .level) (m .line)) m (break-of b)
 
 module _ {p p′ : Pen} {page page′ : List ℕ} where
   -- the machine's level after one operation is the pen's indent
@@ -119,52 +117,18 @@ module _ {p p′ : Pen} {page page′ : List ℕ} where
   unfolding after indent-of
   indent-then f = ap (λ (m : Machine). m .level) (f .machine-then)
 
-  quiet : (o : LineOp ℕ) → Quiet o → Ran (o ∷ []) p page p′ page′ → Rendered (o ∷ []) p page p′ page′
+  pub quietly : {op : Op.LineOp} {v : List ℕ} → Interpreted op v p page p′ page′ → Quiet op → Rendered (operation op v ∷ []) p page p′ page′
   unfolding indent-of
-  quiet o q f = record { ran = f; indent-kept = indent-then f ∙ level-kept (machine p) o q }
+  quietly {op} {v} f q = record { ran = f .ran; indent-kept = indent-then (f .ran) ∙ level-kept (machine p) op v q }
 
-  -- the code's operations, by name
-  module _ {v : List ℕ} where
-    pub appended : Interpreted Op.AppendToLine v p page p′ page′ → Rendered (part v ∷ []) p page p′ page′
-    unfolding operation
-    appended f = quiet (part v) tt (f .ran)
-
-    pub new-lined : Interpreted Op.StartNewLine v p page p′ page′ → Rendered (new-line ∷ []) p page p′ page′
-    unfolding operation
-    new-lined f = quiet new-line tt (f .ran)
-
-    pub broke : {b : Break} → Interpreted (Op.BreakIfWithinLine b) v p page p′ page′ → Rendered (break (break-of b) ∷ []) p page p′ page′
-    unfolding operation
-    broke {b} f = quiet (break (break-of b)) tt (f .ran)
-
-    pub pushed-styles : Interpreted Op.PushStyles v p page p′ page′ → Rendered (mark (push (styles-in v)) ∷ []) p page p′ page′
-    unfolding operation
-    pushed-styles f = quiet (mark (push (styles-in v))) tt (f .ran)
-
-    pub popped-styles : Interpreted Op.PopStyles v p page p′ page′ → Rendered (mark (pop (styles-in v)) ∷ []) p page p′ page′
-    unfolding operation
-    popped-styles f = quiet (mark (pop (styles-in v))) tt (f .ran)
-
-    pub opened : {d : Bool} → Interpreted (Op.PushAnchor d) v p page p′ page′ → Rendered (mark (open-anchor d v) ∷ []) p page p′ page′
-    unfolding operation
-    opened {d} f = quiet (mark (open-anchor d v)) tt (f .ran)
-
-    pub closed : Interpreted Op.PopAnchor v p page p′ page′ → Rendered (mark close-anchor ∷ []) p page p′ page′
-    unfolding operation
-    closed f = quiet (mark close-anchor) tt (f .ran)
-
-    pub anchored : {d : Bool} → Interpreted (Op.EmptyAnchor d) v p page p′ page′ → Rendered (empty-anchor d v ∷ []) p page p′ page′
-    unfolding operation
-    anchored {d} f = quiet (empty-anchor d v) tt (f .ran)
-
-    -- and those that change the indent
-    pub deeper : Interpreted Op.PushIndent v p page p′ page′ → indent-of p′ ≡ suc (indent-of p)
-    unfolding operation step indent-of
-    deeper f = indent-then (f .ran)
+  -- and the one that makes it deeper
+  pub deeper : {v : List ℕ} → Interpreted Op.the-variants.PushIndent v p page p′ page′ → indent-of p′ ≡ suc (indent-of p)
+  unfolding operation step indent-of
+  deeper f = indent-then (f .ran)
 
 -- what stands between a push and a pop of the indent keeps it
-pub indented : {p p₁ p₂ p₃ : Pen} {page page₁ page₂ page₃ v w : List ℕ} {os : Ops} → Interpreted Op.PushIndent v p page p₁ page₁
-    → Rendered os p₁ page₁ p₂ page₂ → Interpreted Op.PopIndent w p₂ page₂ p₃ page₃ → Rendered (rules.indent ∷ (os ++ (rules.unindent ∷ []))) p page p₃ page₃
+pub indented : {p p₁ p₂ p₃ : Pen} {page page₁ page₂ page₃ v w : List ℕ} {os : Ops} → Interpreted Op.the-variants.PushIndent v p page p₁ page₁
+    → Rendered os p₁ page₁ p₂ page₂ → Interpreted Op.the-variants.PopIndent w p₂ page₂ p₃ page₃ → Rendered (rules.indent ∷ (os ++ (rules.unindent ∷ []))) p page p₃ page₃
 unfolding operation step indent-of
 indented f g h =
     record {

@@ -1,7 +1,7 @@
 -- The pen's number: its parts taken out and put together, and that a step's machine fits into one.
 use mathlib.Core.Path.{_≡_, refl, sym, ap, _∙_}
 use mathlib.Core.List.{List, [], _∷_}
-use mathlib.Core.Option.{none, some}
+use mathlib.Core.Option.{some}
 use mathlib.Core.Bool.{Bool, true, false}
 use Prim.Native.Nat.{ℕ, zero, suc, _+_, _*_, _/_, _%_, _^_, _<_, _≤_, max}
 use native.Mathlib.Omega.{arith}
@@ -20,27 +20,6 @@ use Rattle.pages.specs.declared.pen.Pen.{Pen}
 use Rattle.pages.proofs.ItemCosts.{target-le, step-level}
 
 -- ---- taken out
-
-module _ (n : ℕ) where
-  pub empty-said : n ≡ 0 → rules.empty ≡ line-numbered n
-  unfolding line-numbered
-  empty-said e = rw e refl
-
-  pub has-text-said : n ≡ 1 → rules.has-text ≡ line-numbered n
-  unfolding line-numbered
-  has-text-said e = rw e refl
-
-  pub no-wait-said : n ≡ 0 → none ≡ waiting-numbered n
-  unfolding waiting-numbered
-  no-wait-said e = rw e refl
-
-  pub space-said : n ≡ 1 → some rules.a-space ≡ waiting-numbered n
-  unfolding waiting-numbered
-  space-said e = rw e refl
-
-  pub plain-said : (n / 65536) % 2 ≡ 0 → F.the-variants.Plain ≡ form-in n
-  unfolding form-in form-numbered
-  plain-said e = rw e refl
 
 pub indented-said : (n : ℕ) → (n ≡ 0 → ⊥) → (n ≡ 1 → ⊥) → {k : ℕ} → k + 2 ≡ n → rules.indented-by k ≡ line-numbered n
 unfolding line-numbered
@@ -65,37 +44,9 @@ html-said n z = html-numbered ((n / 65536) % 2) z
 
 -- ---- put together
 
-pub empty-number : (l : L.LineState) → l ≡ L.the-variants.Empty → (line-numbered 0 ≡ line-of l) × (0 < 2 ^ 45)
-unfolding line-numbered line-of
-empty-number l e = (rw e refl, omega arith)
-
-pub has-text-number : (l : L.LineState) → l ≡ L.the-variants.HasText → (line-numbered 1 ≡ line-of l) × (1 < 2 ^ 45)
-unfolding line-numbered line-of
-has-text-number l e = (rw e refl, omega arith)
-
 pub indented-number : (l : L.LineState) {k : ℕ} → l ≡ L.the-variants.Indented k → Fits (line-of l) → (line-numbered (k + 2) ≡ line-of l) × (k + 2 < 2 ^ 45)
 unfolding line-of levels-of
 indented-number l {k} e h = (sym (indented-said (k + 2) (λ z. omega (arith, z)) (λ o. omega (arith, o)) refl) ∙ rw e refl, rw e at (h .fits))
-
-pub no-wait-number : (w : W.Waiting) → w ≡ W.the-variants.Nothing → (waiting-numbered 0 ≡ waiting-of w) × (0 < 3)
-unfolding waiting-numbered waiting-of
-no-wait-number w e = (rw e refl, omega arith)
-
-pub space-number : (w : W.Waiting) → w ≡ W.the-variants.Space → (waiting-numbered 1 ≡ waiting-of w) × (1 < 3)
-unfolding waiting-numbered waiting-of
-space-number w e = (rw e refl, omega arith)
-
-pub newline-number : (w : W.Waiting) → w ≡ W.the-variants.NewLine → (waiting-numbered 2 ≡ waiting-of w) × (2 < 3)
-unfolding waiting-numbered waiting-of
-newline-number w e = (rw e refl, omega arith)
-
-pub plain-number : (f : F.Form) → f ≡ F.the-variants.Plain → (form-numbered 0 ≡ f) × (0 < 2)
-unfolding form-numbered
-plain-number f e = (rw e refl, omega arith)
-
-pub html-number : (f : F.Form) → f ≡ F.the-variants.Html → (form-numbered 1 ≡ f) × (1 < 2)
-unfolding form-numbered
-html-number f e = (rw e refl, omega arith)
 
 -- what stands below a part's weight does not count there
 over-form : {n q r : ℕ} → n ≡ q * 65536 + r → r < 65536 → (n / 65536 ≡ q) × (n % 65536 ≡ r)

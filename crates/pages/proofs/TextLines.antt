@@ -11,11 +11,12 @@ use Rattle.rules.specs.Bytes.{if_then_else_, newline}
 use Rattle.rules.specs.Layout.{parts}
 use Rattle.rules.specs.Lines.{part, new-line, later, text-ops}
 use Rattle.lines.specs.declared.LineOp.the-variants as Op
+use Rattle.lines.specs.Said.{operation}
 use Rattle.texts.specs.FirstLine.{first-long}
 use Rattle.pages.specs.OpsIn.{Ops}
 use Rattle.pages.specs.Ran.{Interpreted, Rendered}
 use Rattle.pages.specs.declared.pen.Pen.{Pen}
-use Rattle.pages.proofs.Running.{nothing, and-then, by, appended, new-lined}
+use Rattle.pages.proofs.Running.{nothing, and-then, by, quietly}
 
 -- ---- the first line
 
@@ -84,6 +85,7 @@ module _ {v : List ℕ} {at₀ : ℕ} {p₀ : Pen} {page₀ : List ℕ} {at : �
   pub lines-more : {n : ℕ} {w : List ℕ} {p₁ p₂ : Pen} {page₁ page₂ : List ℕ} → at < length v → n ≡ first-long (take (length v - (at + 1)) (drop (at + 1) v))
       → Interpreted Op.StartNewLine w p page p₁ page₁ → Interpreted Op.AppendToLine (take (at + 1 + n - (at + 1)) (drop (at + 1) v)) p₁ page₁ p₂ page₂
       → LinesDone v at₀ p₀ page₀ (at + 1 + n) p₂ page₂
+  unfolding operation
   lines-more {n} h e f g =
       let s : List ℕ = drop (at + 1) v in
       let e′ : n ≡ first-long s = e ∙ ap first-long (take-all (length v - (at + 1)) s (omega (arith, length-drop (at + 1) v))) in
@@ -93,12 +95,12 @@ module _ {v : List ℕ} {at₀ : ℕ} {p₀ : Pen} {page₀ : List ℕ} {at : �
         within = next-ends v at h e;
         done = l .done ++ os;
         left = l .left ∙ ap (λ (os : Ops). l .done ++ os) (line-behind v at n h e′) ∙ sym (append-assoc (l .done) os (later-in (drop (at + 1 + n) v)));
-        rendered = and-then (l .rendered) (and-then (new-lined f) (appended (rw k at g)));
+        rendered = and-then (l .rendered) (and-then (quietly f tt) (quietly (rw k at g) tt));
       }
 
   pub lines-end : {pen : Pen} {page⁻ : List ℕ} → length v ≤ at → at₀ ≡ first-long v → Interpreted Op.AppendToLine (take at₀ v) pen page⁻ p₀ page₀
       → Rendered (text-ops newline v) pen page⁻ p page
-  unfolding later-in
+  unfolding later-in operation
   lines-end h e f =
       let all : later-in (drop at₀ v) ≡ l .done = l .left ∙ rw (drop-of-length-le v h, append-nil (l .done)) in
-      by (and-then (appended f) (l .rendered)) (sym (text-line v at₀ e ∙ ap (λ (os : Ops). part (take at₀ v) ∷ os) all))
+      by (and-then (quietly f tt) (l .rendered)) (sym (text-line v at₀ e ∙ ap (λ (os : Ops). part (take at₀ v) ∷ os) all))

@@ -2,93 +2,58 @@
 use mathlib.Core.Path.{_≡_, refl}
 use mathlib.Core.List.{List, [], _++_}
 use mathlib.Core.Bool.{Bool, true, false}
-use Prim.Native.Nat.{ℕ, zero, suc, _-_, _<_, _≤_}
+use Prim.Native.Nat.{ℕ, zero, suc, _-_, _≤_}
 use native.Mathlib.Omega.{arith}
 use lib.ListN.{length, getD, take, drop}
-use borrow.Author.Tests.{ne-eqb, le-leb, lt-leb}
-use Rattle.lines.specs.Said.{break-of}
+use borrow.Author.Tests.{ne-eqb, le-leb}
+use Rattle.lines.specs.Said.{break-of, operation}
 use Rattle.lines.specs.declared.Break.the-variants as Break
 use Rattle.lines.specs.declared.LineOp.the-variants as Op
-use Rattle.parts.specs.Walk.{Ends}
 use Rattle.parts.proofs.Spans.{behind}
-use Rattle.pages.specs.OpsIn.{Ops, each-from, leaf-in, node-by, behind-fragment, fragments-by, indented-by, node-in, three-in, fragment-in}
+use Rattle.pages.specs.OpsIn.{Ops, each-from, leaf-in, node-by, behind-fragment, fragments-by, indented-by, node-in, three-in}
 use Rattle.pages.specs.Ran.{Interpreted, Rendered}
 use Rattle.pages.specs.declared.pen.Pen.{Pen}
-use Rattle.pages.proofs.Running.{nothing, and-then, broke, indented}
-use Rattle.pages.proofs.Going.{Going, going-more, going-ends}
+use Rattle.pages.proofs.Running.{and-then, quietly, indented}
 
 -- ---- a node
 
 -- what a 4 gives
-four-in : (left : ℕ) → List ℕ → Ops
+unfoldable pub four-in : (left : ℕ) → List ℕ → Ops
 four-in zero h = []
 four-in (suc left) h = fragments-by false (node-in left false) h
 
-node-is : (left : ℕ) (directly : Bool) (h : List ℕ) → node-in left directly h ≡ node-by directly (three-in left h) (four-in left h) h
+pub node-is : (left : ℕ) (directly : Bool) (h : List ℕ) → node-in left directly h ≡ node-by directly (three-in left h) (four-in left h) h
 unfolding node-in three-in four-in
 node-is zero directly h = refl
 node-is (suc left) directly h = refl
 
-module _ (left : ℕ) (directly : Bool) (h : List ℕ) {p : Pen} {page : List ℕ} where
-  pub node-short : length h < 3 → Rendered (node-in left directly h) p page p page
+module _ (left : ℕ) (directly : Bool) (h : List ℕ) {p p′ : Pen} {page page′ : List ℕ} (l : 3 ≤ length h) where
+  pub node-four : getD h 0 0 ≡ 4 → (left ≡ 0 → ⊥) → Rendered (fragments-by false (node-in (left - 1) false) h) p page p′ page′
+      → Rendered (node-in left directly h) p page p′ page′
+  unfolding node-by four-in fragments-by
+  node-four e n r = rw (node-is left directly h, le-leb 3 (length h) l, e) (go left n r)
+    where
+      go : (left : ℕ) → (left ≡ 0 → ⊥) → Rendered (fragments-by false (node-in (left - 1) false) h) p page p′ page′ → Rendered (four-in left h) p page p′ page′
+      go zero n r = absurd (n refl)
+      go (suc left) n r = let e : suc left - 1 ≡ left = omega arith in rw e at r
+
+  pub node-leaf : (getD h 0 0 ≡ 3 → ⊥) → (getD h 0 0 ≡ 4 → ⊥) → Rendered (leaf-in directly (getD h 0 0) (take (length h - 3) (drop 3 h))) p page p′ page′
+      → Rendered (node-in left directly h) p page p′ page′
   unfolding node-by
-  node-short l = rw (node-is left directly h, lt-leb 3 (length h) l) nothing
-
-  pub node-too-deep : 3 ≤ length h → getD h 0 0 ≡ 4 → left ≡ 0 → Rendered (node-in left directly h) p page p page
-  unfolding node-by four-in
-  node-too-deep l e z = rw (node-is left directly h, le-leb 3 (length h) l, e, z) nothing
-
-  module _ {p′ : Pen} {page′ : List ℕ} (l : 3 ≤ length h) where
-    pub node-three : getD h 0 0 ≡ 3 → Rendered (three-in left h) p page p′ page′ → Rendered (node-in left directly h) p page p′ page′
-    unfolding node-by
-    node-three e r = rw (node-is left directly h, le-leb 3 (length h) l, e) r
-
-    pub node-four : getD h 0 0 ≡ 4 → (left ≡ 0 → ⊥) → Rendered (fragments-by false (node-in (left - 1) false) h) p page p′ page′
-        → Rendered (node-in left directly h) p page p′ page′
-    unfolding node-by four-in fragments-by
-    node-four e n r = rw (node-is left directly h, le-leb 3 (length h) l, e) (go left n r)
-      where
-        go : (left : ℕ) → (left ≡ 0 → ⊥) → Rendered (fragments-by false (node-in (left - 1) false) h) p page p′ page′ → Rendered (four-in left h) p page p′ page′
-        go zero n r = absurd (n refl)
-        go (suc left) n r = let e : suc left - 1 ≡ left = omega arith in rw e at r
-
-    pub node-leaf : (getD h 0 0 ≡ 3 → ⊥) → (getD h 0 0 ≡ 4 → ⊥) → Rendered (leaf-in directly (getD h 0 0) (take (length h - 3) (drop 3 h))) p page p′ page′
-        → Rendered (node-in left directly h) p page p′ page′
-    unfolding node-by
-    node-leaf n3 n4 r = rw (node-is left directly h, le-leb 3 (length h) l, ne-eqb (getD h 0 0) 3 n3, ne-eqb (getD h 0 0) 4 n4) (rw (behind h) at r)
+  node-leaf n3 n4 r = rw (node-is left directly h, le-leb 3 (length h) l, ne-eqb (getD h 0 0) 3 n3, ne-eqb (getD h 0 0) 4 n4) (rw (behind h) at r)
 
 -- ---- an indented block
-
-pub no-three : (left : ℕ) (h : List ℕ) {p : Pen} {page : List ℕ} → left ≡ 0 → Rendered (three-in left h) p page p page
-unfolding three-in
-no-three left h z = rw z nothing
 
 pub a-three : (left : ℕ) (h : List ℕ) {p p₁ p₂ p₃ p₄ : Pen} {page page₁ page₂ page₃ page₄ x y z : List ℕ} → (left ≡ 0 → ⊥)
     → Interpreted Op.PushIndent x p page p₁ page₁ → Interpreted (Op.BreakIfWithinLine Break.NewLine) y p₁ page₁ p₂ page₂
     → Rendered (fragments-by true (node-in (left - 1) true) h) p₂ page₂ p₃ page₃ → Interpreted Op.PopIndent z p₃ page₃ p₄ page₄
     → Rendered (three-in left h) p page p₄ page₄
-unfolding three-in indented-by break-of
+unfolding three-in indented-by break-of operation
 a-three zero h n a b r c = absurd (n refl)
-a-three (suc left) h n a b r c = let e : suc left - 1 ≡ left = omega arith in indented a (and-then (broke b) (rw e at r)) c
+a-three (suc left) h n a b r c = let e : suc left - 1 ≡ left = omega arith in indented a (and-then (quietly b tt) (rw e at r)) c
 
 -- ---- the loops
 
 -- a fragment of a block, and what stands behind it
 unfoldable pub fragment-ops : (left : ℕ) (directly : Bool) → List ℕ → Ops
 fragment-ops left directly f = each-from (node-in left directly) 3 f ++ behind-fragment directly
-
-module _ (left : ℕ) (directly : Bool) {s : List ℕ} {p₀ : Pen} {page₀ : List ℕ} {at : ℕ} {p : Pen} {page : List ℕ} where
-  pub fragment-more : {to : ℕ} {p₁ p₂ : Pen} {page₁ page₂ : List ℕ} → Going (fragment-ops left directly) 3 s p₀ page₀ at p page → at < length s → Ends s at to
-      → Rendered (fragment-in left directly 3 (take (to - at) (drop at s))) p page p₁ page₁ → Rendered (behind-fragment directly) p₁ page₁ p₂ page₂
-      → Going (fragment-ops left directly) 3 s p₀ page₀ to p₂ page₂
-  unfolding fragment-in fragment-ops
-  fragment-more g h e r b = going-more g h e (and-then r b)
-
-  pub fragments-end : Going (fragment-ops left directly) 3 s p₀ page₀ at p page → length s ≤ at
-      → Rendered (fragments-by directly (node-in left directly) s) p₀ page₀ p page
-  unfolding fragments-by fragment-ops
-  fragments-end = going-ends
-
-  pub nodes-end : {from : ℕ} → Going (node-in left directly) from s p₀ page₀ at p page → length s ≤ at → Rendered (fragment-in left directly from s) p₀ page₀ p page
-  unfolding fragment-in
-  nodes-end = going-ends

@@ -21,8 +21,8 @@ use Rattle.rules.specs.Html.{escape, makes, items-html, opening, closing, befor
 use Rattle.rules.specs.Answers.{itself, tree, check-answer, written, left-page, plain-text, plain-outcome, body-text, body-outcome, document-text, document-outcome}
 use Rattle.verify.proofs.Verdicts.{RefusedSo, refused-so, AcceptedAs, accepted-as}
 use Rattle.writing.specs.Written.{last, Written}
-use Rattle.writing.specs.Laws as writing
-use Rattle.writing.specs.Laws.{how-long, fits, no-page}
+use Rattle.writing.proofs.Laws as writing
+use Rattle.writing.proofs.Laws.{how-long, fits, no-page}
 use Rattle.pages.specs.OpsIn.{fragment-in}
 use Rattle.pages.specs.Ran.{shown, machine, form, Rendered}
 use Rattle.pages.specs.Kinds.{form-of, head, foot, page-in, page-of, page-outcome}
@@ -32,8 +32,7 @@ use Rattle.pages.specs.declared.pen.Pen.{Pen}
 use Rattle.pages.proofs.OfTrees.{ops-tree}
 use Rattle.pages.proofs.PageLengths.{plain-short}
 use Rattle.pages.proofs.HtmlLengths.{body-short, document-short}
-use Rattle.pages.proofs.Running.{fill-append}
-use Rattle.pages.proofs.Pens.{fill-makes}
+use Rattle.markup.proofs.Fills.{fill-append, fill-makes}
 
 -- ---- the pen over a whole file
 

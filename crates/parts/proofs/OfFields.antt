@@ -6,12 +6,18 @@ use native.Mathlib.Omega.{arith}
 use lib.ListN.{length, length-append}
 use lib.Seq.{take-at, drop-at}
 use Rattle.rules.specs.Encode.{field}
-use Rattle.parts.specs.Walk.{span, here, rest, walk, fold}
+use Rattle.fields.proofs.Encoded.{value-here}
+use Rattle.parts.specs.Walk.{part, span, here, rest, walk, fold}
 use Rattle.parts.proofs.Loops.{walk-step, fold-step}
 
 pub length-field : (t : ℕ) (v : List ℕ) → length (field t v) ≡ 3 + length v
 unfolding field
 length-field t v = omega arith
+
+-- the value of a field behind some bytes
+pub part-here : (a : List ℕ) (t : ℕ) (v b : List ℕ) → part (a ++ (field t v ++ b)) (length a + 3) (length a + 3 + length v) ≡ v
+unfolding part
+part-here = value-here
 
 module _ (t : ℕ) (v r : List ℕ) (h : length v < 65_536) where
   pub span-field : span (field t v ++ r) ≡ length (field t v)

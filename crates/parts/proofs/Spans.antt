@@ -2,6 +2,7 @@
 use mathlib.Core.Path.{_≡_}
 use mathlib.Core.List.{List}
 use Prim.Native.Nat.{ℕ, _+_, _-_, _*_, _<_, _≤_}
+use native.Mathlib.Nat.{le-of-lt}
 use native.Mathlib.Omega.{arith}
 use lib.ListN.{length, getD, take, drop, length-drop}
 use lib.Seq.{getD-drop, take-all}
@@ -34,6 +35,13 @@ end-after {s} {at} e h = omega (arith, span-positive (drop at s) (rw length-drop
 
 pub end-within : {s : List ℕ} {at to : ℕ} → Ends s at to → at < length s → to ≤ length s
 end-within {s} {at} e h = omega (arith, span-le (drop at s), length-drop at s)
+
+-- so the field's bounds rise, and less is left behind it
+pub end-rises : {s : List ℕ} {at to : ℕ} → Ends s at to → at < length s → at ≤ to
+end-rises e h = le-of-lt (end-after e h)
+
+pub end-less : {s : List ℕ} {at to : ℕ} → Ends s at to → at < length s → length s - to < length s - at
+end-less e h = omega (arith, end-after e h, end-within e h)
 
 -- what follows the three bytes of a header, as the code takes it
 pub behind : (h : List ℕ) → take (length h - 3) (drop 3 h) ≡ drop 3 h

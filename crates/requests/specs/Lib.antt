@@ -1,2 +1,2 @@
--- Where a request's file stands.
+-- The request at a place.
 pub mod Requests

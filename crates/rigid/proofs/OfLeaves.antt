@@ -15,19 +15,15 @@ use Rattle.rules.specs.Good.{Good}
 use Rattle.rules.specs.Layout.{Shape, Inline, _⊕_, byte-width, styled-width, width, parts, parts-shape, only-if-block, rigid-text, rigid-runs, rigid}
 use Rattle.rules.proofs.Typed.{inner-good}
 use Rattle.rules.proofs.Turned.{leaf-bytes}
-use Rattle.fields.proofs.Encoded.{field-here, value-here}
+use Rattle.fields.proofs.Encoded.{field-here}
 use Rattle.styles.specs.StylesIn.{styles-in}
-use Rattle.styles.specs.Sound.{good-styles}
-use Rattle.parts.specs.Walk.{part, fold}
+use Rattle.styles.proofs.Sound.{good-styles}
+use Rattle.parts.specs.Walk.{fold}
 use Rattle.parts.proofs.Loops.{fold-nil}
-use Rattle.parts.proofs.OfFields.{length-field, fold-field}
+use Rattle.parts.proofs.OfFields.{length-field, part-here, fold-field}
 use Rattle.rigid.specs.RigidIn.{wide, by-parts, text-in, chars-in, styled-in, run-in, with-run, anchor-in, by-tag, rigid-in}
 
 -- ---- a text
-
-part-here : (a : List ℕ) (t : ℕ) (v b : List ℕ) → part (a ++ (field t v ++ b)) (length a + 3) (length a + 3 + length v) ≡ v
-unfolding part
-part-here = value-here
 
 -- by the width of its style's byte
 by-style : (style : Option (Fields ℕ)) (a : List ℕ) (bs : List (List ℕ)) → by-parts (styled-width style) a bs ≡ parts-shape style a bs

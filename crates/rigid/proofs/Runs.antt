@@ -1,39 +1,26 @@
 -- The fields of a 1, and the runs of a 2 one after the other.
-use mathlib.Core.Path.{_≡_, refl, sym, ap, _∙_}
+use mathlib.Core.Path.{_≡_, refl, sym, _∙_}
 use mathlib.Core.List.{List}
 use Prim.Native.Nat.{ℕ, _-_, _≤_, _<_}
 use native.Mathlib.Omega.{arith}
-use lib.ListN.{length, getD, take, drop, length-drop}
-use borrow.Author.Tests.{eq-eqb, ne-eqb, le-leb, lt-leb}
-use Rattle.rules.specs.Layout.{Shape, Inline, _⊕_, byte-width, effective}
+use lib.ListN.{length, take, drop, length-drop}
+use borrow.Author.Tests.{eq-eqb, ne-eqb}
+use Rattle.rules.specs.Layout.{Shape, Inline, byte-width, effective}
 use Rattle.fields.specs.declared.Field.{Field}
-use Rattle.fields.specs.declared.Field.the-variants.{Whole, Past, Cut}
+use Rattle.fields.specs.declared.Field.the-variants.{Whole}
 use Rattle.fields.specs.FieldAt.{field-at}
+use Rattle.fields.proofs.Laws.{NotWhole, not-whole}
 use Rattle.styles.specs.StylesIn.{styles-in}
 use Rattle.parts.specs.Walk.{part, fold, span, here, Ends}
-use Rattle.parts.proofs.Spans.{behind}
 use Rattle.parts.proofs.Loops.{Left, left-starts, left-more, left-ends, fold-nil, fold-step}
 use Rattle.rigid.specs.RigidIn.{text-in, chars-in, styled-in, run-in, with-run, anchor-in}
 
 -- ---- the fields of a 1
 
--- a 17 that is not whole
-no-chars : (v : List ℕ) (w : ℕ) (g : Field) → ((t from to : ℕ) → g ≡ Whole t from to → ⊥) → chars-in v w g ≡ Inline 0 0
-unfolding chars-in
-no-chars v w (Whole t from to) n = absurd (n t from to refl)
-no-chars v w (Past t) n = refl
-no-chars v w Cut n = refl
-
-no-fields : (v : List ℕ) (f : Field) → ((t from to : ℕ) → f ≡ Whole t from to → ⊥) → styled-in v f ≡ Inline 0 0
-unfolding styled-in
-no-fields v (Whole t from to) n = absurd (n t from to refl)
-no-fields v (Past t) n = refl
-no-fields v Cut n = refl
-
 module _ (v : List ℕ) {r : Shape} {f : Field} (e : f ≡ field-at v 0) where
-  pub no-run : ((t from to : ℕ) → f ≡ Whole t from to → ⊥) → r ≡ Inline 0 0 → r ≡ run-in v
-  unfolding run-in
-  no-run n h = rw (← e) (h ∙ sym (no-fields v f n))
+  pub no-run : NotWhole f → r ≡ Inline 0 0 → r ≡ run-in v
+  unfolding run-in styled-in
+  no-run n h = rw (← e) (h ∙ sym (not-whole (styled-in v) (λ t. refl) refl f n))
 
   module _ {t from to : ℕ} (w : f ≡ Whole t from to) where
     pub plain-run : (t ≡ 16 → ⊥) → r ≡ text-in 10 (take (to - from) (drop from v)) → r ≡ run-in v
@@ -42,29 +29,14 @@ module _ (v : List ℕ) {r : Shape} {f : Field} (e : f ≡ field-at v 0) where
 
     -- with a style
     module _ (s : t ≡ 16) {g : Field} (e′ : g ≡ field-at v to) where
-      pub cut-run : ((t from to : ℕ) → g ≡ Whole t from to → ⊥) → r ≡ Inline 0 0 → r ≡ run-in v
-      unfolding run-in styled-in
-      cut-run n h = rw (sym e ∙ w, eq-eqb t 16 s, ← e′) (h ∙ sym (no-chars v _ g n))
+      pub cut-run : NotWhole g → r ≡ Inline 0 0 → r ≡ run-in v
+      unfolding run-in styled-in chars-in
+      cut-run n h = rw (sym e ∙ w, eq-eqb t 16 s, ← e′) (h ∙ sym (not-whole (chars-in v _) (λ t. refl) refl g n))
 
       pub styled-run : {c t′ from′ to′ : ℕ} → g ≡ Whole t′ from′ to′ → c ≡ byte-width (effective (styles-in (take (to - from) (drop from v))))
           → r ≡ text-in c (take (to′ - from′) (drop from′ v)) → r ≡ run-in v
       unfolding run-in styled-in chars-in part
       styled-run w′ ec h = rw (sym e ∙ w, eq-eqb t 16 s, ← ec, sym e′ ∙ w′) h
-
--- ---- a field of a 2
-
-module _ (so-far : Shape) (h : List ℕ) where
-  pub short-field : length h < 3 → so-far ≡ with-run so-far h
-  unfolding with-run
-  short-field l = rw (lt-leb 3 (length h) l)
-
-  pub other-field : 3 ≤ length h → (getD h 0 0 ≡ 1 → ⊥) → so-far ≡ with-run so-far h
-  unfolding with-run
-  other-field l n = rw (le-leb 3 (length h) l, ne-eqb (getD h 0 0) 1 n)
-
-  pub one-run : {r x : Shape} → 3 ≤ length h → getD h 0 0 ≡ 1 → x ≡ run-in (take (length h - 3) (drop 3 h)) → r ≡ so-far ⊕ x → r ≡ with-run so-far h
-  unfolding with-run
-  one-run l n e q = rw (le-leb 3 (length h) l, eq-eqb (getD h 0 0) 1 n) (q ∙ ap (λ x. so-far ⊕ x) (e ∙ ap run-in (behind h)))
 
 -- ---- all of them
 

@@ -5,4 +5,6 @@ pub mod Opacity
 pub mod Parts
 pub mod Reading
 pub mod Sizes
+pub mod Sound
+pub mod StylesWritable
 pub mod Widths

@@ -1,29 +1,17 @@
 -- Bits of an opacity, as tests and as a float.
 use mathlib.Core.Path.{_≡_, refl, sym, subst}
 use mathlib.Core.Bool.{Bool, true, false, not, _&&_, _||_}
-use Prim.Native.Nat.{ℕ, _*_, _%_, _≤_, _<_}
+use Prim.Native.Nat.{ℕ, _*_, _%_, _≤_}
 use native.Mathlib.Nat.{mod-le, le-trans}
 use native.Mathlib.Omega.{arith}
 use lib.Arith.{le→nltb}
 use lib.Dec.{T, leb, eqb}
 use lib.Ieee.{Float, nan, inf, fin, binary32, ofBits, toBits, nanBits, isNan, top, ones, hid}
 use lib.Ieee.Bits.{nanBits-above, nanBits-is, toBits-ofBits}
-use borrow.Author.Tests.{eq-eqb, ne-eqb, le-leb, lt-leb, leb-true, eqb-true}
+use borrow.Author.Tests.{leb-true, eqb-true}
 use Rattle.rules.specs.Walk.{right-opacity}
 
 -- ---- the test
-
-pub zero-right : (bits : ℕ) → bits ≡ 0 → true ≡ right-opacity bits
-unfolding right-opacity
-zero-right bits h = rw (eq-eqb bits 0 h)
-
-pub low-wrong : (bits : ℕ) → (bits ≡ 0 → ⊥) → bits < 0x3a80_0000 → false ≡ right-opacity bits
-unfolding right-opacity
-low-wrong bits n h = rw (ne-eqb bits 0 n, lt-leb 0x3a80_0000 bits h)
-
-pub high-test : (bits : ℕ) → (bits ≡ 0 → ⊥) → 0x3a80_0000 ≤ bits → leb bits 0x3f80_0000 ≡ right-opacity bits
-unfolding right-opacity
-high-test bits n h = rw (ne-eqb bits 0 n, le-leb 0x3a80_0000 bits h)
 
 pub right-below : (bits : ℕ) → right-opacity bits ≡ true → bits ≤ 0x3f80_0000
 unfolding right-opacity

@@ -23,6 +23,10 @@ pub put-colour : (st : Styles) (c v : List ℕ) → c ≡ v → length v ≡ 3 �
 unfolding right-value right-length
 put-colour st c v e h = ap (put-part st 32) e ∙ put-in st 32 v (eq-eqb (length v) 3 h)
 
+pub either : {A : Type 0} {a : A} (b : Bool) → a ≡ (if b then a else a)
+either true = refl
+either false = refl
+
 -- a tag that is none of 32 to 38
 pub other-tag : (t : ℕ)
     → (t ≡ 32 → ⊥) → (t ≡ 33 → ⊥) → (t ≡ 34 → ⊥) → (t ≡ 35 → ⊥) → (t ≡ 36 → ⊥) → (t ≡ 37 → ⊥) → (t ≡ 38 → ⊥)
@@ -38,7 +42,3 @@ other-tag t n32 n33 n34 n35 n36 n37 n38 st v =
       ne-eqb 37 t (λ e. n37 (sym e)),
       ne-eqb 38 t (λ e. n38 (sym e)),
     ) (either (right-value t v))
-  where
-    either : (b : Bool) → st ≡ (if b then st else st)
-    either true = refl
-    either false = refl

@@ -7,7 +7,7 @@ use native.Mathlib.Omega.{arith}
 use lib.Dec.{leb, ltb, eqb, ltb→lt, eqb→eq}
 use lib.IntN.{ℤ, pos, negsuc, _-ℤ_}
 use lib.Signed.{mag, leZ}
-use borrow.Author.Tests.{lt-ltb, le-ltb, le-leb}
+use borrow.Author.Tests.{le-ltb, le-leb}
 use mir.Syntax.{w8, w16}
 use mir.Val.{SFits, toZ, ofZ}
 use mir.ValLaws.{toZ-ofZ}
@@ -16,14 +16,10 @@ use Rattle.rules.specs.Walk.{right-size}
 use Rattle.rules.specs.Layout.{or-script, effective}
 use Rattle.styles.specs.declared.Styles.{Styles}
 use Rattle.styles.specs.Said.{flagged, said-styles, is-there}
-use Rattle.styles.specs.StylesWritable.{size-test}
+use Rattle.styles.proofs.StylesWritable.{size-test}
 use Rattle.styles.proofs.EveryByte.{of-byte}
 
 -- ---- a byte as a signed one: below 128 itself, else 256 less
-
-pub low-byte : (b : ℕ) → b < 128 → toZ w8 b ≡ signed b
-unfolding signed
-low-byte b h = rw (lt-ltb b 128 h)
 
 abbrev less : ℕ → ℤ
 less b = toZ w16 b -ℤ pos 256

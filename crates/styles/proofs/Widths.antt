@@ -9,7 +9,7 @@ use lib.Dec.{ltb, eqb, leb→le, eqb→eq}
 use lib.IntN.{ℤ, pos, negsuc}
 use lib.ListN.{length, take, drop, getD}
 use borrow.Author.Tests.{eq-eqb, ne-eqb, lt-ltb, le-ltb, le-leb, lt-leb}
-use Rattle.rules.specs.Bytes.{if_then_else_, number}
+use Rattle.rules.specs.Bytes.{if_then_else_}
 use Rattle.rules.specs.Digits.{signed}
 use Rattle.rules.specs.Walk.{right-length, right-size}
 use Rattle.rules.specs.Tree.{Styles, signed-byte}
@@ -19,10 +19,11 @@ use Rattle.fields.specs.declared.Field.the-variants.{Whole}
 use Rattle.fields.specs.FieldAt.{field-at}
 use Rattle.styles.specs.Said.{AllowedSize}
 use Rattle.styles.specs.StylesIn.{no-styles, right-value, put-part, with-field, styles-in}
-use Rattle.styles.specs.StylesWritable.{effective-allowed, styles-writable}
-use Rattle.styles.specs.WidthIn.{sized, measure, script, script-with, width-with}
+use Rattle.styles.proofs.StylesWritable.{effective-allowed, styles-writable}
+use Rattle.styles.specs.WidthIn.{sized, measure, script, width-with}
 use Rattle.styles.proofs.EveryByte.{of-byte}
 use Rattle.styles.proofs.Lengths.{number-one}
+use Rattle.styles.proofs.Parts.{either}
 use Rattle.styles.proofs.Reading.{Left, all-left, next-left, stopped, ended}
 
 -- ---- a size
@@ -32,65 +33,28 @@ at-size : (b : ℕ) → b < 256 → byte-width (some (signed b)) ≡ (if ltb b 1
 unfolding byte-width not-negative signed
 at-size b h = eqb→eq _ _ (of-byte (λ b. true) (λ b. eqb (byte-width (some (signed b))) (if ltb b 128 then 10 + b else b - 246)) tt b h refl)
 
-module _ (n : ℕ) (v : List ℕ) where
-  pub other-long : (length v ≡ 1 → ⊥) → n ≡ width-with n 35 v
-  unfolding width-with right-value right-length
-  other-long e = rw (ne-eqb (length v) 1 e)
+module _ (n : ℕ) (v : List ℕ) (l : length v ≡ 1) where
+  size-put : getD v 0 0 < 256 → right-size (getD v 0 0) ≡ true → 256 + (if ltb (getD v 0 0) 128 then 10 + getD v 0 0 else getD v 0 0 - 246) ≡ width-with n 35 v
+  unfolding width-with right-value right-length signed-byte
+  size-put h r = rw (eq-eqb (length v) 1 l, ← number-one v l, r) (ap (λ (w : ℕ). 256 + w) (sym (at-size (getD v 0 0) h)))
 
-  module _ (l : length v ≡ 1) where
-    pub not-allowed : 118 ≤ getD v 0 0 → getD v 0 0 < 128 → n ≡ width-with n 35 v
-    unfolding width-with right-value right-length right-size
-    not-allowed p q = rw (eq-eqb (length v) 1 l, ← number-one v l, lt-leb (getD v 0 0) 117 p, lt-leb 128 (getD v 0 0) q)
+  pub low-size : getD v 0 0 < 118 → 256 + 10 + getD v 0 0 ≡ width-with n 35 v
+  unfolding right-size
+  low-size p =
+      let s = size-put (omega arith) (rw (le-leb (getD v 0 0) 117 (omega arith))) in
+      omega (arith, rw (lt-ltb (getD v 0 0) 128 (omega arith)) at s)
 
-    -- one that is allowed
-    size-put : getD v 0 0 < 256 → right-size (getD v 0 0) ≡ true → 256 + (if ltb (getD v 0 0) 128 then 10 + getD v 0 0 else getD v 0 0 - 246) ≡ width-with n 35 v
-    unfolding width-with right-value right-length signed-byte
-    size-put h r = rw (eq-eqb (length v) 1 l, ← number-one v l, r) (ap (λ (w : ℕ). 256 + w) (sym (at-size (getD v 0 0) h)))
-
-    pub low-size : getD v 0 0 < 118 → 256 + 10 + getD v 0 0 ≡ width-with n 35 v
-    unfolding right-size
-    low-size p =
-        let s = size-put (omega arith) (rw (le-leb (getD v 0 0) 117 (omega arith))) in
-        omega (arith, rw (lt-ltb (getD v 0 0) 128 (omega arith)) at s)
-
-    pub negative-size : 128 ≤ getD v 0 0 → getD v 0 0 < 256 → {w : ℕ} → w ≡ 256 + (getD v 0 0 - 246) → w ≡ width-with n 35 v
-    unfolding right-size
-    negative-size p h e =
-        let s = size-put h (rw (lt-leb (getD v 0 0) 117 (omega arith), le-leb 128 (getD v 0 0) p)) in
-        e ∙ rw (le-ltb (getD v 0 0) 128 p) at s
-
--- ---- a script
-
-module _ (n : ℕ) (v : List ℕ) where
-  pub script-long : (length v ≡ 0 → ⊥) → n ≡ script-with n v
-  unfolding script-with
-  script-long e = rw (ne-eqb (length v) 0 e)
-
-  pub script-put : length v ≡ 0 → n < 256 → 8 ≡ script-with n v
-  unfolding script-with script
-  script-put e h = rw (eq-eqb (length v) 0 e, lt-ltb n 256 h)
-
-  pub script-idle : length v ≡ 0 → 256 ≤ n → n ≡ script-with n v
-  unfolding script-with script
-  script-idle e h = rw (eq-eqb (length v) 0 e, le-ltb n 256 h)
-
-  pub subscript : script-with n v ≡ width-with n 36 v
-  unfolding script-with width-with right-value right-length
-  subscript = refl
-
-  pub superscript : script-with n v ≡ width-with n 37 v
-  unfolding script-with width-with right-value right-length
-  superscript = refl
+  pub negative-size : 128 ≤ getD v 0 0 → getD v 0 0 < 256 → {w : ℕ} → w ≡ 256 + (getD v 0 0 - 246) → w ≡ width-with n 35 v
+  unfolding right-size
+  negative-size p h e =
+      let s = size-put h (rw (lt-leb (getD v 0 0) 117 (omega arith), le-leb 128 (getD v 0 0) p)) in
+      e ∙ rw (le-ltb (getD v 0 0) 128 p) at s
 
 -- any other tag
 pub other-width : (n t : ℕ) (v : List ℕ) → (t ≡ 35 → ⊥) → (t ≡ 36 → ⊥) → (t ≡ 37 → ⊥) → n ≡ width-with n t v
 unfolding width-with
 other-width n t v n35 n36 n37 =
     rw (ne-eqb 35 t (λ e. n35 (sym e)), ne-eqb 36 t (λ e. n36 (sym e)), ne-eqb 37 t (λ e. n37 (sym e))) (either (right-value t v))
-  where
-    either : (b : Bool) → n ≡ (if b then n else n)
-    either true = refl
-    either false = refl
 
 -- ---- the number of a style
 

@@ -6,7 +6,7 @@ use native.Mathlib.Omega.{arith}
 use lib.ListN.{length, take, drop, replicate, length-take, length-drop, length-replicate, take-append-drop}
 use lib.Seq.{set-out, sets-eq, drop-drop, length-take-le, take-all}
 use Rattle.writing.specs.Written.{last, moved, with-text, Written}
-use Rattle.writing.specs.Laws.{with-append, with-length, with-sets}
+use Rattle.writing.proofs.Laws.{with-append, with-length, with-sets}
 
 -- ---- what does not fit
 

@@ -1,3 +1,2 @@
--- What writing a text to a lent page leaves, and its laws.
+-- What writing a text to a lent page leaves.
 pub mod Written
-pub mod Laws

@@ -2,9 +2,10 @@
 use Prim.Native.Nat.{ℕ, _<_}
 use native.Mathlib.Omega.{arith}
 use borrow.Author.Needs.{needs}
-use borrow.Fn.Kinds.{In}
 use borrow.Fn.PlainCycle.{Measures, is, falls, and}
-use Rattle.digits.proofs.Figures.{no-digits, place-more}
+use Rattle.digits.proofs.Figures.{place-more}
+use Rattle.rules.specs.Digits.{last-digits}
+use Rattle.writing.proofs.Laws.{nothing}
 use Rattle.digits.proofs.put_last_digits.Reads as put-last-digits
 use Rattle.digits.proofs.put_last_digits.Kinds as put-last-digits-kinds
 use Rattle.digits.proofs.+put_last_digits.Lts-put_last_digits as put-last-digits-lts
@@ -16,22 +17,12 @@ use Rattle.digits.proofs.+put_last_digits.Tie.{close}
 abbrev μ-put-last-digits : Measures 1 put-last-digits-kinds.ps ℕ
 μ-put-last-digits κs a = a .1 .1 .1 .0
 
-abbrev put-last-digits-at : ℕ → In 1 put-last-digits-kinds.ps
-put-last-digits-at t =
-    and 1 put-last-digits-kinds.ps (is 1 put-last-digits-kinds.ps μ-put-last-digits t) put-last-digits.Pre
-
-abbrev put-last-digits-below : ℕ → In 1 put-last-digits-kinds.ps
-put-last-digits-below t =
-    and 1 put-last-digits-kinds.ps (falls 1 put-last-digits-kinds.ps _<_ μ-put-last-digits t) put-last-digits.Pre
-
-abbrev put-last-digits-given : ℕ → put-last-digits-lts.Claims
-put-last-digits-given t =
-    (put-last-digits-below t, put-last-digits.Post, last-digit-reads.Asked, last-digit-reads.Learnt, put-reads.Asked, put-reads.Learnt)
-
 pub +put-last-digits-spec : {M : Type 1} → statement M
 +put-last-digits-spec =
-    close μ-put-last-digits λ t. put-last-digits-lts.spec (put-last-digits-given t) (put-last-digits-at t) put-last-digits.Post
-    (λ c. no-digits _ _ (c .if1 .taken)) (λ c. search needs)
+    close μ-put-last-digits λ t. put-last-digits-lts.spec
+    (and 1 put-last-digits-kinds.ps (falls 1 put-last-digits-kinds.ps _<_ μ-put-last-digits t) put-last-digits.Pre, put-last-digits.Post, last-digit-reads.Asked, last-digit-reads.Learnt, put-reads.Asked, put-reads.Learnt)
+    (and 1 put-last-digits-kinds.ps (is 1 put-last-digits-kinds.ps μ-put-last-digits t) put-last-digits.Pre) put-last-digits.Post
+    (λ c. unfold last-digits in rw (c .if1 .taken) nothing) (λ c. search needs)
     (λ c κs. (omega (arith, c .before .before .before .pre .0), tt)) (λ c κs. search needs) (λ c κs. search needs) (λ c. search needs)
     (λ c. let last = c .before .before in
     let before = last .before .before .before .before .before in

@@ -1,19 +1,14 @@
 -- `digits::before_point` meets its contract. The loop's invariant: what is left is n with as many places cut as were counted.
-use mathlib.Core.Path.{_≡_}
+use mathlib.Core.Path.{_≡_, sym}
 use Prim.Native.Nat.{_≤_, _-_, _/_, _^_}
+use native.Mathlib.Nat.{div-one}
 use native.Mathlib.Omega.{arith}
 use borrow.Author.Needs.{needs}
-use Rattle.digits.proofs.Figures.{none-cut, one-more-cut, all-cut}
+use Rattle.digits.proofs.Figures.{one-more-cut, all-cut}
 use Rattle.digits.proofs.before_point.Statement.{statement}
 use Rattle.digits.proofs.before_point.Tie as tie
 
-abbrev Inv-loop : tie.InvT-loop
-Inv-loop n places whole₀ cut₀ whole cut = (cut ≤ places) × (whole ≡ n / 10 ^ cut)
-
-abbrev μ-loop : tie.MeasureT-loop
-μ-loop n places whole₀ cut₀ whole cut = places - cut
-
 pub before-point-spec : {M : Type 1} → statement M
-before-point-spec =
-    tie.close (tie.spec Inv-loop μ-loop (λ c. (search needs, none-cut _)) (λ c. search needs) (λ c. search needs)
+before-point-spec = tie.close (tie.spec (λ n places whole₀ cut₀ whole cut. (cut ≤ places) × (whole ≡ n / 10 ^ cut)) (λ n places whole₀ cut₀ whole cut. places - cut)
+    (λ c. (search needs, sym (div-one _))) (λ c. search needs) (λ c. search needs)
     (λ c. (search needs, one-more-cut _ _ (c .before .loop .inv .1))) (λ c. all-cut _ (c .before .loop .inv .1) (omega arith)))

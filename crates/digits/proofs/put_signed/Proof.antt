@@ -9,8 +9,7 @@ use Rattle.digits.proofs.put_signed.Statement.{statement}
 use Rattle.digits.proofs.put_signed.Tie as tie
 
 pub put-signed-spec : {M : Type 1} → statement M
-put-signed-spec =
-    tie.close (tie.spec (λ c κs. search needs) (λ c κs. search needs) (λ c κs. search needs) (λ c. search needs)
+put-signed-spec = tie.close (tie.spec (λ c κs. search needs) (λ c κs. search needs) (λ c κs. search needs) (λ c. search needs)
     (λ c. let second = c .before .before in
     let first = second .before .before .before .before .before in
     let z = as-held (first .before .before .before .fits .z) in

@@ -6,8 +6,7 @@ use Rattle.fields.proofs.field_at.Statement.{statement}
 use Rattle.fields.proofs.field_at.Tie as tie
 
 pub field-at-spec : {M : Type 1} → statement M
-field-at-spec =
-    tie.close (tie.spec (λ c. cut _ _ (omega arith)) (λ c. search needs) (λ c. cut _ _ (omega arith)) (λ c. search needs) (λ c. search needs)
+field-at-spec = tie.close (tie.spec (λ c. cut _ _ (omega arith)) (λ c. search needs) (λ c. cut _ _ (omega arith)) (λ c. search needs) (λ c. search needs)
     (λ c κs. search needs) (λ c. search needs) (λ c. search needs) (λ c. search needs) (λ c κs. search needs) (λ c. search needs) (λ c. search needs)
     (λ c. search needs) (λ c. search needs) (λ c. search needs) (λ c. whole _ _ _ (cc) (omega arith) (omega arith)) (λ c. search needs)
     (λ c. past _ _ (omega arith) (omega arith)))

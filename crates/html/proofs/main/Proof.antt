@@ -7,6 +7,5 @@ use Rattle.html.proofs.main.Statement.{statement}
 use Rattle.html.proofs.main.Tie as tie
 
 pub main-spec : {M : Type 1} → statement M
-main-spec =
-    tie.close (tie.spec (λ c. search needs) (λ c κs. search needs) (λ c. search needs) (λ c. search needs) (λ c. sym (length-replicate {A = ℕ} 4194304 0))
+main-spec = tie.close (tie.spec (λ c. search needs) (λ c κs. search needs) (λ c. search needs) (λ c. search needs) (λ c. sym (length-replicate {A = ℕ} 4194304 0))
     (λ c κs. search needs) (λ c. search needs))

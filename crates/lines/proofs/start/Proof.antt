@@ -6,6 +6,5 @@ use Rattle.lines.proofs.start.Statement.{statement}
 use Rattle.lines.proofs.start.Tie as tie
 
 pub start-spec : {M : Type 1} → statement M
-start-spec =
-    tie.close (tie.spec
+start-spec = tie.close (tie.spec
     (λ c. unfold machine-of line-of waiting-of rules.start in refl))

@@ -5,8 +5,7 @@ use Rattle.masks.proofs.compare_files.Statement.{statement}
 use Rattle.masks.proofs.compare_files.Tie as tie
 
 pub compare-files-spec : {M : Type 1} → statement M
-compare-files-spec =
-    tie.close (tie.spec
+compare-files-spec = tie.close (tie.spec
     (λ c. third (c .before .before .before .before .before .args .files .now)) (λ c κs. search needs) (λ c. search needs) (λ c. search needs)
     (λ c. search needs) (λ c. search needs) (λ c κs. search needs) (λ c. search needs) (λ c. search needs) (λ c. search needs) (λ c. search needs)
     (λ c κs. search needs) (λ c κs. search needs) (λ c. search needs) (λ c. search needs) (λ c. search needs) (λ c. search needs))

@@ -7,13 +7,7 @@ use borrow.Author.Needs.{needs}
 use Rattle.masks.proofs.copy.Statement.{statement}
 use Rattle.masks.proofs.copy.Tie as tie
 
-abbrev Inv-loop : tie.InvT-loop
-Inv-loop from into₀ at₀ into at = (length into ≡ length into₀) × (at ≤ length into₀)
-
-abbrev μ-loop : tie.MeasureT-loop
-μ-loop from into₀ at₀ into at = length into₀ - at
-
 pub copy-spec : {M : Type 1} → statement M
-copy-spec =
-    tie.close (tie.spec Inv-loop μ-loop (λ c. search needs) (λ c. (refl, omega arith)) (λ c. search needs) (λ c. search needs) (λ c. search needs)
+copy-spec = tie.close (tie.spec (λ from into₀ at₀ into at. (length into ≡ length into₀) × (at ≤ length into₀)) (λ from into₀ at₀ into at. length into₀ - at)
+    (λ c. search needs) (λ c. (refl, omega arith)) (λ c. search needs) (λ c. search needs) (λ c. search needs)
     (λ c. search needs) (λ c. search needs) (λ c. search needs) (λ c. search needs))

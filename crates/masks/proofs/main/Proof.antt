@@ -5,8 +5,7 @@ use Rattle.masks.proofs.main.Statement.{statement}
 use Rattle.masks.proofs.main.Tie as tie
 
 pub main-spec : {M : Type 1} → statement M
-main-spec =
-    tie.close (tie.spec (λ c. search needs) (λ c κs. search needs) (λ c. search needs) (λ c. search needs) (λ c κs. search needs) (λ c. search needs)
+main-spec = tie.close (tie.spec (λ c. search needs) (λ c κs. search needs) (λ c. search needs) (λ c. search needs) (λ c κs. search needs) (λ c. search needs)
     (λ c. search needs) (λ c κs. search needs) (λ c. search needs) (λ c. search needs) (λ c. search needs) (λ c. search needs) (λ c. search needs)
     (λ c. from-buffer _ (c .before .before .before .if2 .left)) (λ c. search needs)
     (λ c. from-buffer _ (c .before .before .before .before .if2 .left)) (λ c. search needs)

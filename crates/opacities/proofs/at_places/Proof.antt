@@ -12,8 +12,7 @@ use Rattle.opacities.proofs.at_places.Statement.{statement}
 use Rattle.opacities.proofs.at_places.Tie as tie
 
 pub at-places-spec : {M : Type 1} → statement M
-at-places-spec =
-    tie.close (tie.spec (λ c. record { fits = product-fits (c .pre) }) (λ c. search needs) (λ c. search needs) (λ c. omega (arith, lower-fits (c .pre)))
+at-places-spec = tie.close (tie.spec (λ c. record { fits = product-fits (c .pre) }) (λ c. search needs) (λ c. search needs) (λ c. omega (arith, lower-fits (c .pre)))
     (λ c. omega (arith, lower-fits (c .pre))) (λ c. omega (arith, rest-lt (c .pre))) (λ c. search needs) (λ c. search needs)
     (λ c. omega (arith, rest-lt (c .before .before .pre)))
     (λ c. unfold said in let a = c .before .before .before .args in

@@ -9,15 +9,9 @@ use Rattle.opacities.proofs.Turns.{Turn, start, power-le, stop, below-t
 use Rattle.opacities.proofs.search.Statement.{statement}
 use Rattle.opacities.proofs.search.Tie as tie
 
-abbrev Inv-loop : tie.InvT-loop
-Inv-loop m u d t₀ places₀ t places = Turn m u d t places
-
-abbrev μ-loop : tie.MeasureT-loop
-μ-loop m u d t₀ places₀ t places = 10 - places
-
 pub search-spec : {M : Type 1} → statement M
-search-spec =
-    tie.close (tie.spec Inv-loop μ-loop (λ c. start)
+search-spec = tie.close (tie.spec (λ m u d t₀ places₀ t places. Turn m u d t places) (λ m u d t₀ places₀ t places. 10 - places)
+    (λ c. start)
     (λ c κs. let s = c .before .pre .0 in
     record { m-lt = s .m-lt; u-pos = s .u-pos; u-le = s .u-le; d-le = s .d-le; t-le = power-le (c .loop .inv) })
     (λ c. search needs)

@@ -13,8 +13,7 @@ use Rattle.opacities.proofs.shortest.Statement.{statement}
 use Rattle.opacities.proofs.shortest.Tie as tie
 
 pub shortest-spec : {M : Type 1} → statement M
-shortest-spec =
-    tie.close (tie.spec
+shortest-spec = tie.close (tie.spec
     (λ c. unfold decimal-of signed-decimal in ap (signed-decimal false) (sym (ap (shortest binary32 false) (c .if1 .taken) ∙ of-zero)))
     (λ c. search needs) (λ c. search needs)
     (λ c. omega (arith, field-to (in-range _ (c .before .pre) (c .if1 .left)))) (λ c. search needs)

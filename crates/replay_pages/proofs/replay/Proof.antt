@@ -5,19 +5,13 @@ use Prim.Native.Nat.{_≤_, _-_}
 use lib.ListN.{length}
 use native.Mathlib.Omega.{arith}
 use borrow.Author.Needs.{needs}
-use Rattle.requests.specs.Requests.{file-at}
+use Rattle.requests.proofs.Laws.{file-at}
 use Rattle.replay_pages.proofs.replay.Statement.{statement}
 use Rattle.replay_pages.proofs.replay.Tie as tie
 
-abbrev Inv-loop : tie.InvT-loop
-Inv-loop s page₀ at₀ page at = (length page ≡ length page₀) × (at ≤ length s)
-
-abbrev μ-loop : tie.MeasureT-loop
-μ-loop s page₀ at₀ page at = length s - at
-
 pub replay-spec : {M : Type 1} → statement M
-replay-spec =
-    tie.close (tie.spec Inv-loop μ-loop (λ c. (refl, omega arith)) (λ c κs. search needs) (λ c. search needs) (λ c. search needs)
+replay-spec = tie.close (tie.spec (λ s page₀ at₀ page at. (length page ≡ length page₀) × (at ≤ length s)) (λ s page₀ at₀ page at. length s - at)
+    (λ c. (refl, omega arith)) (λ c κs. search needs) (λ c. search needs) (λ c. search needs)
     (λ c. c .before .before .before .before .loop .inv .0) (λ c. search needs)
     (λ c. c .before .before .before .before .before .before .loop .inv .0) (λ c. search needs)
     (λ c. (file-at (c .before .before .before .before .before .before .before .before .before .args .s .now) (c .before .before .before .before .before .before .loop .at) (c .before .before .before .before .request-at .ensures) (c .before .before .r .given .1)) .ordered)

@@ -1,19 +1,15 @@
--- `requests::fill` is safe and ends, and the page stays as long as it was.
-use mathlib.Core.Path.{_≡_, refl}
-use Prim.Native.Nat.{_≤_, _-_}
-use lib.ListN.{length}
-use native.Mathlib.Omega.{arith}
+-- `requests::fill` meets its contract. The loop's invariant: the first bytes have the pattern.
+use mathlib.Core.Path.{refl}
+use Prim.Native.Nat.{_-_, _<_}
+use lib.ListN.{length, replicate, length-replicate, getD-replicate}
 use borrow.Author.Needs.{needs}
+use Rattle.writing.proofs.Copies.{Copied, none-copied, one-more, all-copied}
 use Rattle.requests.proofs.fill.Statement.{statement}
 use Rattle.requests.proofs.fill.Tie as tie
 
-abbrev Inv-loop : tie.InvT-loop
-Inv-loop page₀ at₀ page at = (length page ≡ length page₀) × (at ≤ length page₀)
-
-abbrev μ-loop : tie.MeasureT-loop
-μ-loop page₀ at₀ page at = length page₀ - at
-
 pub fill-spec : {M : Type 1} → statement M
-fill-spec =
-    tie.close (tie.spec Inv-loop μ-loop (λ c. (refl, omega arith)) (λ c. search needs) (λ c. search needs) (λ c. search needs) (λ c. search needs)
-    (λ c. search needs) (λ c. search needs))
+fill-spec = tie.close (tie.spec (λ page₀ at₀ page at. Copied (replicate (length page₀) 165) (length page₀) page at) (λ page₀ at₀ page at. length page₀ - at)
+    (λ c. none-copied (length-replicate _ _) refl) (λ c. search needs) (λ c. search needs) (λ c. search needs)
+    (λ c. let here : c .before .loop .at < length (c .before .before .args .page .now) = search needs in
+    one-more (c .before .loop .inv) here _ (getD-replicate _ _ _ _ here))
+    (λ c. search needs) (λ c. all-copied (c .before .loop .inv) (search needs)))

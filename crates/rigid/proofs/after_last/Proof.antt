@@ -4,15 +4,9 @@ use Rattle.rigid.proofs.Lines.{Unbroken, none-seen, newline-seen, other
 use Rattle.rigid.proofs.after_last.Statement.{statement}
 use Rattle.rigid.proofs.after_last.Tie as tie
 
-abbrev Inv-loop : tie.InvT-loop
-Inv-loop v n₀ n = Unbroken v n
-
-abbrev μ-loop : tie.MeasureT-loop
-μ-loop v n₀ n = n
-
 pub after-last-spec : {M : Type 1} → statement M
-after-last-spec =
-    tie.close (tie.spec Inv-loop μ-loop (λ c. none-seen _) (λ c. search needs) (λ c. search needs) (λ c. search needs)
+after-last-spec = tie.close (tie.spec (λ v n₀ n. Unbroken v n) (λ v n₀ n. n)
+    (λ c. none-seen _) (λ c. search needs) (λ c. search needs) (λ c. search needs)
     (λ c. let turn = c .before .before in
     newline-seen (turn .before .loop .inv) (turn .loop-test .taken) (c .if1 .taken))
     (λ c. search needs)

@@ -2,32 +2,25 @@
 use mathlib.Core.Logic.{⊎-elim}
 use native.Mathlib.Omega.{arith}
 use borrow.Author.Needs.{needs}
-use Rattle.styles.proofs.Reading.{whole-inside}
+use Rattle.fields.proofs.Laws.{rises, ends}
 use Rattle.rigid.proofs.Runs.{no-run, plain-run, cut-run, styled-run}
 use Rattle.rigid.proofs.run_layout.Statement.{statement}
 use Rattle.rigid.proofs.run_layout.Tie as tie
 
 pub run-layout-spec : {M : Type 1} → statement M
-run-layout-spec =
-    tie.close (tie.spec (λ c κs. search needs) (λ c. search needs) (λ c κs. search needs)
+run-layout-spec = tie.close (tie.spec (λ c κs. search needs) (λ c. search needs) (λ c κs. search needs)
     (λ c. no-run _ (c .before .before .field-at .ensures)
     (λ t from to e. ⊎-elim (λ k. omega arith) (λ k. omega arith) (rw e at (c .before .match .keys2))) (c .inline .ensures))
-    (λ c. whole-inside _ _ _ _ _ _ (c .before .before .before .before .field-at .ensures) (c .before .before .tag .given .1) .rising)
-    (λ c. whole-inside _ _ _ _ _ _ (c .before .before .before .before .field-at .ensures) (c .before .before .tag .given .1) .rising)
-    (λ c. whole-inside _ _ _ _ _ _ (c .before .before .before .before .field-at .ensures) (c .before .before .tag .given .1) .ends) (λ c κs. search needs)
+    (λ c. search rises) (λ c. search rises) (λ c. search ends) (λ c κs. search needs)
     (λ c. plain-run _ (c .before .before .before .before .before .before .field-at .ensures) (c .before .before .before .before .tag .given .1)
     (c .before .before .if1 .taken) (c .text-layout .ensures))
-    (λ c. whole-inside _ _ _ _ _ _ (c .before .before .before .before .field-at .ensures) (c .before .before .tag .given .1) .rising)
-    (λ c. whole-inside _ _ _ _ _ _ (c .before .before .before .before .field-at .ensures) (c .before .before .tag .given .1) .rising)
-    (λ c. whole-inside _ _ _ _ _ _ (c .before .before .before .before .field-at .ensures) (c .before .before .tag .given .1) .ends) (λ c κs. search needs)
+    (λ c. search rises) (λ c. search rises) (λ c. search ends) (λ c κs. search needs)
     (λ c κs. search needs) (λ c. search needs) (λ c κs. search needs)
     (λ c. cut-run _ (c .before .before .before .before .before .before .before .before .before .field-at .ensures)
     (c .before .before .before .before .before .before .before .tag .given .1)
     (c .before .before .before .before .before .if1 .left) (c .before .before .field-at2 .ensures)
     (λ t from to e. ⊎-elim (λ k. omega arith) (λ k. omega arith) (rw e at (c .before .match2 .keys2))) (c .inline2 .ensures))
-    (λ c. whole-inside _ _ _ _ _ _ (c .before .before .before .field-at2 .ensures) (c .before .t .given .1) .rising)
-    (λ c. whole-inside _ _ _ _ _ _ (c .before .before .before .field-at2 .ensures) (c .before .t .given .1) .rising)
-    (λ c. whole-inside _ _ _ _ _ _ (c .before .before .before .field-at2 .ensures) (c .before .t .given .1) .ends) (λ c κs. search needs)
+    (λ c. search rises) (λ c. search rises) (λ c. search ends) (λ c κs. search needs)
     (λ c. styled-run _ (c .before .before .before .before .before .before .before .before .before .before .before .before .field-at .ensures)
     (c .before .before .before .before .before .before .before .before .before .before .tag .given .1)
     (c .before .before .before .before .before .before .before .before .if1 .left)

@@ -5,8 +5,7 @@ use Rattle.rigid.proofs.text_layout.Statement.{statement}
 use Rattle.rigid.proofs.text_layout.Tie as tie
 
 pub text-layout-spec : {M : Type 1} → statement M
-text-layout-spec =
-    tie.close (tie.spec (λ c κs. search needs) (λ c κs. search needs) (λ c κs. search needs)
+text-layout-spec = tie.close (tie.spec (λ c κs. search needs) (λ c κs. search needs) (λ c κs. search needs)
     (λ c. one-line _ _ (c .before .before .before .first-line-end .ensures) (c .before .columns .ensures) (c .before .before .if1 .taken)
     (c .inline .ensures))
     (λ c κs. search needs) (λ c κs. search needs) (λ c κs. search needs) (λ c κs. search needs)

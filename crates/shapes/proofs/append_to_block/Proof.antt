@@ -1,14 +1,13 @@
 -- `shapes::append_to_block` meets its contract.
 use mathlib.Core.Path.{refl}
 use Rattle.shapes.proofs.Numbers.{line, lines}
-use Rattle.shapes.proofs.Appending.{block-inline, block-block}
+use Rattle.rules.specs.Layout.{_⊕_}
 use borrow.Author.Needs.{needs}
 use Rattle.shapes.proofs.append_to_block.Statement.{statement}
 use Rattle.shapes.proofs.append_to_block.Tie as tie
 
 pub append-to-block-spec : {M : Type 1} → statement M
-append-to-block-spec =
-    tie.close (tie.spec (λ c κs. search needs) (λ c κs. search needs) (λ c κs. search needs)
-    (λ c. block-block _ _ (lines _ (c .before .before .before .is-block .ensures) refl (c .before .second .ensures) (c .before .before .if1 .taken)) (c .block-or-mixed .ensures))
+append-to-block-spec = tie.close (tie.spec (λ c κs. search needs) (λ c κs. search needs) (λ c κs. search needs)
+    (λ c. unfold _⊕_ in rw (lines _ (c .before .before .before .is-block .ensures) refl (c .before .second .ensures) (c .before .before .if1 .taken)) (c .block-or-mixed .ensures))
     (λ c κs. search needs) (λ c κs. search needs) (λ c κs. search needs)
-    (λ c. block-inline _ _ (line _ (c .before .before .before .before .is-block .ensures) (c .before .before .first .ensures) refl (c .before .before .before .if1 .left)) (c .before .saturating-add .ensures) (c .block-or-mixed2 .ensures)))
+    (λ c. unfold _⊕_ in rw (line _ (c .before .before .before .before .is-block .ensures) (c .before .before .first .ensures) refl (c .before .before .before .if1 .left), ← (c .before .saturating-add .ensures)) (c .block-or-mixed2 .ensures)))

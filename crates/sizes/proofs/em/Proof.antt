@@ -13,6 +13,5 @@ unfolding all-open place-of decimal-at same test
 entry-requires c κs = (tested _ _ tt, search needs)
 
 pub em-spec : {M : Type 1} → statement M
-em-spec =
-    tie.close (tie.spec entry-requires
+em-spec = tie.close (tie.spec entry-requires
     (λ c. rw (passed (c .before .before .before .fits .size)) at (c .entry .ensures)))

@@ -7,8 +7,7 @@ use Rattle.sizes.proofs.entry.Statement.{statement}
 use Rattle.sizes.proofs.entry.Tie as tie
 
 pub entry-spec : {M : Type 1} → statement M
-entry-spec =
-    tie.close (tie.spec (λ c κs. search needs)
+entry-spec = tie.close (tie.spec (λ c κs. search needs)
     (λ c. offset-fits (c .before .fits .size) (c .before .pre .1) (c .place .ensures))
     (λ c. in-table (c .before .fits .size) (c .before .pre .1) (c .place .ensures))
     (λ c. in-table (c .before .before .fits .size) (c .before .before .pre .1) (c .before .place .ensures)) (λ c κs. search needs)

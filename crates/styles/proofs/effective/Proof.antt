@@ -8,8 +8,7 @@ use Rattle.styles.proofs.effective.Statement.{statement}
 use Rattle.styles.proofs.effective.Tie as tie
 
 pub effective-spec : {M : Type 1} → statement M
-effective-spec =
-    tie.close (tie.spec
+effective-spec = tie.close (tie.spec
     (λ c. unfold or-zero in toZ-ofZ w8 _ (record { sfits = c .struct-told .given .1 .1 .1 .1 .1 .1 .1 .0 .1 }) ∙ sym (ap or-zero (own-size _ (c .before .if1 .taken))))
     (λ c. unfold or-zero in sym (ap or-zero (script-size _ (c .before .if1 .left) (rw (c .if2 .taken)))))
     (λ c. unfold or-zero in sym (ap or-zero (script-size _ (c .before .before .if1 .left) (rw (c .before .if2 .left, c .if3 .taken)))))

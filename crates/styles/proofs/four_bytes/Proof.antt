@@ -5,8 +5,7 @@ use Rattle.styles.proofs.four_bytes.Statement.{statement}
 use Rattle.styles.proofs.four_bytes.Tie as tie
 
 pub four-bytes-spec : {M : Type 1} → statement M
-four-bytes-spec =
-    tie.close (tie.spec (λ c. search needs) (λ c κs. search needs) (λ c. search needs) (λ c. search needs) (λ c κs. search needs) (λ c. search needs)
+four-bytes-spec = tie.close (tie.spec (λ c. search needs) (λ c κs. search needs) (λ c. search needs) (λ c. search needs) (λ c κs. search needs) (λ c. search needs)
     (λ c. search needs) (λ c. search needs) (λ c κs. search needs) (λ c. search needs) (λ c. search needs) (λ c. search needs) (λ c κs. search needs)
     (λ c. search needs)
     (λ c. rw (

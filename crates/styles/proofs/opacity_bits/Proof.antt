@@ -6,6 +6,5 @@ use Rattle.styles.proofs.opacity_bits.Statement.{statement}
 use Rattle.styles.proofs.opacity_bits.Tie as tie
 
 pub opacity-bits-spec : {M : Type 1} → statement M
-opacity-bits-spec =
-    tie.close (tie.spec
+opacity-bits-spec = tie.close (tie.spec
     (λ c. unfold said-styles flagged in right-number _ (rw (c .pre .0) at (c .pre .1))) (λ c. search needs))

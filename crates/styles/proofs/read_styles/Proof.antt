@@ -5,25 +5,18 @@ use native.Mathlib.Omega.{arith}
 use lib.ListN.{length}
 use borrow.Author.Needs.{needs}
 use Rattle.styles.specs.Said.{said-styles}
-use Rattle.styles.proofs.Reading.{Left, whole-inside, all-left, next-left, stopped, ended}
+use Rattle.styles.proofs.Reading.{Left, all-left, next-left, stopped, ended}
+use Rattle.fields.proofs.Laws.{whole-inside, rises, ends}
 use Rattle.styles.proofs.read_styles.Statement.{statement}
 use Rattle.styles.proofs.read_styles.Tie as tie
 
-abbrev Inv-loop : tie.InvT-loop
-Inv-loop v st₀ at₀ st at = Left v at (said-styles st)
-
-abbrev μ-loop : tie.MeasureT-loop
-μ-loop v st₀ at₀ st at = length v - at
-
 pub read-styles-spec : {M : Type 1} → statement M
-read-styles-spec =
-    tie.close (tie.spec Inv-loop μ-loop (λ c κs. search needs) (λ c. rw (c .none .ensures) (all-left _)) (λ c κs. search needs) (λ c. search needs)
+read-styles-spec = tie.close (tie.spec (λ v st₀ at₀ st at. Left v at (said-styles st)) (λ v st₀ at₀ st at. length v - at)
+    (λ c κs. search needs) (λ c. rw (c .none .ensures) (all-left _)) (λ c κs. search needs) (λ c. search needs)
     (λ c. stopped _ _ _ _ (c .before .field-at .ensures)
     (λ t from to e. ⊎-elim (λ k. omega arith) (λ k. omega arith) (rw e at (c .match .keys2)))
     (c .before .before .before .loop .inv))
-    (λ c. whole-inside _ _ _ _ _ _ (c .before .before .before .field-at .ensures) (c .before .tag .given .1) .rising)
-    (λ c. whole-inside _ _ _ _ _ _ (c .before .before .before .field-at .ensures) (c .before .tag .given .1) .rising)
-    (λ c. whole-inside _ _ _ _ _ _ (c .before .before .before .field-at .ensures) (c .before .tag .given .1) .ends) (λ c κs. search needs)
+    (λ c. search rises) (λ c. search rises) (λ c. search ends) (λ c κs. search needs)
     (λ c. let i = whole-inside _ _ _ _ _ _ (c .before .before .before .before .before .field-at .ensures) (c .before .before .before .tag .given .1) in
     omega (arith, i .begins, i .rising, i .ends))
     (λ c. rw (c .with-field .ensures)

@@ -10,8 +10,7 @@ use Rattle.styles.proofs.with_colour.Statement.{statement}
 use Rattle.styles.proofs.with_colour.Tie as tie
 
 pub with-colour-spec : {M : Type 1} → statement M
-with-colour-spec =
-    tie.close (tie.spec
+with-colour-spec = tie.close (tie.spec
     (λ c. unfold right-value right-length in passed-over _ 32 _ (ne-eqb _ 3 (c .if1 .taken))) (λ c. search needs) (λ c. search needs) (λ c. search needs)
     (λ c. unfold said-styles flagged put-part in let three-long = c .before .before .before .if1 .left in
     put-colour _ _ _ (three _ three-long) three-long))

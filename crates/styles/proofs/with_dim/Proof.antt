@@ -8,7 +8,6 @@ use Rattle.styles.proofs.with_dim.Statement.{statement}
 use Rattle.styles.proofs.with_dim.Tie as tie
 
 pub with-dim-spec : {M : Type 1} → statement M
-with-dim-spec =
-    tie.close (tie.spec
+with-dim-spec = tie.close (tie.spec
     (λ c. unfold right-value right-length in passed-over _ 38 _ (ne-eqb _ 0 (c .if1 .taken)))
     (λ c. unfold said-styles put-part right-value right-length in put-in _ 38 _ (eq-eqb _ 0 (c .if1 .left))))

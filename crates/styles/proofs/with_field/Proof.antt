@@ -5,8 +5,7 @@ use Rattle.styles.proofs.with_field.Statement.{statement}
 use Rattle.styles.proofs.with_field.Tie as tie
 
 pub with-field-spec : {M : Type 1} → statement M
-with-field-spec =
-    tie.close (tie.spec (λ c κs. search needs) (λ c κs. search needs) (λ c κs. search needs) (λ c κs. search needs) (λ c κs. search needs)
+with-field-spec = tie.close (tie.spec (λ c κs. search needs) (λ c κs. search needs) (λ c κs. search needs) (λ c κs. search needs) (λ c κs. search needs)
     (λ c κs. search needs) (λ c κs. search needs)
     (λ c. rw (c .before .match .keys1) (c .with-colour .ensures))
     (λ c. rw (c .before .match .keys2) (c .with-opacity .ensures))

@@ -11,8 +11,7 @@ use Rattle.styles.proofs.with_opacity.Statement.{statement}
 use Rattle.styles.proofs.with_opacity.Tie as tie
 
 pub with-opacity-spec : {M : Type 1} → statement M
-with-opacity-spec =
-    tie.close (tie.spec
+with-opacity-spec = tie.close (tie.spec
     (λ c. unfold right-value right-length in passed-over _ 33 _ (rw (ne-eqb _ 4 (c .if1 .taken)))) (λ c κs. search needs) (λ c κs. search needs)
     (λ c. no-nan _ (right-below _ (sym (c .before .opacity-allowed .ensures) ∙ c .if2 .taken)))
     (λ c. unfold said-styles flagged put-part right-value right-length in let right = sym (c .before .opacity-allowed .ensures) ∙ c .if2 .taken in

@@ -14,8 +14,7 @@ use Rattle.styles.proofs.with_size.Statement.{statement}
 use Rattle.styles.proofs.with_size.Tie as tie
 
 pub with-size-spec : {M : Type 1} → statement M
-with-size-spec =
-    tie.close (tie.spec
+with-size-spec = tie.close (tie.spec
     (λ c. unfold right-value right-length in passed-over _ 35 _ (rw (ne-eqb _ 1 (c .if1 .taken)))) (λ c. search needs) (λ c κs. search needs)
     (λ c. unfold said-styles flagged put-part right-value right-length signed-byte in let s = c .before .signed-byte in
     let one-long = c .before .before .before .if1 .left in

@@ -1,16 +1,21 @@
 -- `styles::with_size_width` meets its contract: by where the byte stands.
 use native.Mathlib.Omega.{arith}
 use mathlib.Core.Path.{refl}
-use Rattle.styles.proofs.Widths.{other-long, low-size, not-allowed, negative-size}
+use Rattle.styles.proofs.Widths.{low-size, negative-size}
+use Rattle.styles.proofs.Lengths.{number-one}
+use borrow.Author.Tests.{eq-eqb, ne-eqb, lt-leb}
+use Rattle.rules.specs.Walk.{right-length, right-size}
+use Rattle.styles.specs.StylesIn.{right-value}
+use Rattle.styles.specs.WidthIn.{width-with}
 use borrow.Author.Needs.{needs}
 use Rattle.styles.proofs.with_size_width.Statement.{statement}
 use Rattle.styles.proofs.with_size_width.Tie as tie
 
 pub with-size-width-spec : {M : Type 1} → statement M
-with-size-width-spec =
-    tie.close (tie.spec (λ c. other-long _ _ (c .if1 .taken)) (λ c. search needs) (λ c. search needs) (λ c. search needs) (λ c. search needs)
+with-size-width-spec = tie.close (tie.spec (λ c. unfold width-with right-value right-length in rw (ne-eqb _ _ (c .if1 .taken))) (λ c. search needs) (λ c. search needs) (λ c. search needs) (λ c. search needs)
     (λ c. low-size _ _ (c .before .before .if1 .left) (c .if2 .taken))
-    (λ c. not-allowed _ _ (c .before .before .before .if1 .left) (c .before .if2 .left) (c .if3 .taken))
+    (λ c. unfold width-with right-value right-length right-size in let l = c .before .before .before .if1 .left in
+    rw (eq-eqb _ _ l, ← (number-one _ l), lt-leb _ _ (c .before .if2 .left), lt-leb _ _ (c .if3 .taken)))
     (λ c. negative-size _ _ (c .before .before .before .before .if1 .left) (c .before .if3 .left) (omega arith) (omega arith))
     (λ c. record { fits = omega (arith, c .before .before .before .shared-slice-known .given 0) }) (λ c. search needs)
     (λ c. record { fits = omega (arith, c .before .before .before .shared-slice-known .given 0) })

@@ -8,7 +8,6 @@ use Rattle.styles.proofs.with_subscript.Statement.{statement}
 use Rattle.styles.proofs.with_subscript.Tie as tie
 
 pub with-subscript-spec : {M : Type 1} → statement M
-with-subscript-spec =
-    tie.close (tie.spec
+with-subscript-spec = tie.close (tie.spec
     (λ c. unfold right-value right-length in passed-over _ 36 _ (ne-eqb _ 0 (c .if1 .taken)))
     (λ c. unfold said-styles put-part right-value right-length in put-in _ 36 _ (eq-eqb _ 0 (c .if1 .left))))

@@ -8,7 +8,6 @@ use Rattle.styles.proofs.with_superscript.Statement.{statement}
 use Rattle.styles.proofs.with_superscript.Tie as tie
 
 pub with-superscript-spec : {M : Type 1} → statement M
-with-superscript-spec =
-    tie.close (tie.spec
+with-superscript-spec = tie.close (tie.spec
     (λ c. unfold right-value right-length in passed-over _ 37 _ (ne-eqb _ 0 (c .if1 .taken)))
     (λ c. unfold said-styles put-part right-value right-length in put-in _ 37 _ (eq-eqb _ 0 (c .if1 .left))))

@@ -8,15 +8,9 @@ use Rattle.texts.proofs.Chunks.{Looked, none-looked, there, not-there, 
 use Rattle.texts.proofs.has_newline.Statement.{statement}
 use Rattle.texts.proofs.has_newline.Tie as tie
 
-abbrev Inv-loop : tie.InvT-loop
-Inv-loop v found₀ i₀ found i = Looked v i found
-
-abbrev μ-loop : tie.MeasureT-loop
-μ-loop v found₀ i₀ found i = length v - i
-
 pub has-newline-spec : {M : Type 1} → statement M
-has-newline-spec =
-    tie.close (tie.spec Inv-loop μ-loop (λ c. none-looked _) (λ c. search needs) (λ c. search needs) (λ c. search needs)
+has-newline-spec = tie.close (tie.spec (λ v found₀ i₀ found i. Looked v i found) (λ v found₀ i₀ found i. length v - i)
+    (λ c. none-looked _) (λ c. search needs) (λ c. search needs) (λ c. search needs)
     (λ c. let turn = c .before .before in
     ⊎-elim (λ h. there (turn .before .loop .inv) (omega arith) (h .0 .taken) (h .1))
     (λ h. not-there (turn .before .loop .inv) (omega arith) (h .0 .left) (h .1)) (c .if1 .came))

@@ -8,15 +8,9 @@ use Rattle.texts.proofs.Chunks.{none-passed, chunk-passed}
 use Rattle.texts.proofs.skip.Statement.{statement}
 use Rattle.texts.proofs.skip.Tie as tie
 
-abbrev Inv-loop : tie.InvT-loop
-Inv-loop v at₀ at = Passed v at
-
-abbrev μ-loop : tie.MeasureT-loop
-μ-loop v at₀ at = length v - at
-
 pub skip-spec : {M : Type 1} → statement M
-skip-spec =
-    tie.close (tie.spec Inv-loop μ-loop (λ c. none-passed _) (λ c. search needs) (λ c. search needs) (λ c. search needs) (λ c. search needs)
+skip-spec = tie.close (tie.spec (λ v at₀ at. Passed v at) (λ v at₀ at. length v - at)
+    (λ c. none-passed _) (λ c. search needs) (λ c. search needs) (λ c. search needs) (λ c. search needs)
     (λ c. search needs) (λ c κs. simp (length-take, length-drop) (omega arith)) (λ c. c .before .before .before .before .loop .inv) (λ c. search needs)
     (λ c. let turn = c .before .before .before in
     chunk-passed (turn .before .loop .inv) 32 (turn .loop-test .taken) (c .before .has-newline .ensures) (c .if1 .left))

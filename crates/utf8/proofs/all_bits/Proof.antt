@@ -8,14 +8,8 @@ use Rattle.utf8.proofs.Ascii.{one-or, all-or}
 use Rattle.utf8.proofs.all_bits.Statement.{statement}
 use Rattle.utf8.proofs.all_bits.Tie as tie
 
-abbrev Inv-loop : tie.InvT-loop
-Inv-loop s all₀ i₀ all i = (i ≤ length s) × (bits-with all (drop i s) ≡ all-bits s)
-
-abbrev μ-loop : tie.MeasureT-loop
-μ-loop s all₀ i₀ all i = length s - i
-
 pub all-bits-spec : {M : Type 1} → statement M
-all-bits-spec =
-    tie.close (tie.spec Inv-loop μ-loop (λ c. unfold all-bits in (search needs, refl)) (λ c. search needs) (λ c. search needs) (λ c. search needs)
+all-bits-spec = tie.close (tie.spec (λ s all₀ i₀ all i. (i ≤ length s) × (bits-with all (drop i s) ≡ all-bits s)) (λ s all₀ i₀ all i. length s - i)
+    (λ c. unfold all-bits in (search needs, refl)) (λ c. search needs) (λ c. search needs) (λ c. search needs)
     (λ c. (search needs, one-or _ _ _ (c .before .before .loop .inv .1) (c .before .loop-test .taken)))
     (λ c. all-or _ _ _ (c .before .loop .inv .1) (c .loop-test .left)))

@@ -10,8 +10,7 @@ use Rattle.utf8.proofs.begin.Statement.{statement}
 use Rattle.utf8.proofs.begin.Tie as tie
 
 pub begin-spec : {M : Type 1} → statement M
-begin-spec =
-    tie.close (tie.spec (λ c κs. search needs) (λ c κs. search needs) (λ c κs. search needs) (λ c κs. search needs) (λ c κs. search needs)
+begin-spec = tie.close (tie.spec (λ c κs. search needs) (λ c κs. search needs) (λ c κs. search needs) (λ c κs. search needs) (λ c κs. search needs)
     (λ c κs. search needs) (λ c κs. search needs) (λ c κs. search needs) (λ c κs. search needs)
     (λ c. unfold following ranges in between 0xe0 0xe0 (c .wants .ensures) refl (c .before .before .args .b) (omega arith) (omega arith))
     (λ c. unfold following ranges in between 0xed 0xed (c .wants2 .ensures) refl (c .before .before .args .b) (omega arith) (omega arith))

@@ -10,15 +10,9 @@ use Rattle.utf8.proofs.Turns.{never, goes-on, whole, cut}
 use Rattle.utf8.proofs.check_each.Statement.{statement}
 use Rattle.utf8.proofs.check_each.Tie as tie
 
-abbrev Inv-loop : tie.InvT-loop
-Inv-loop s owed₀ i₀ owed i = (i ≤ length s) × (utf8-after (wanted-by owed) (drop i s) ≡ utf8 s)
-
-abbrev μ-loop : tie.MeasureT-loop
-μ-loop s owed₀ i₀ owed i = length s - i
-
 pub check-each-spec : {M : Type 1} → statement M
-check-each-spec =
-    tie.close (tie.spec Inv-loop μ-loop (λ c. unfold utf8 ranges in (search needs, refl)) (λ c. search needs) (λ c κs. search needs) (λ c. search needs)
+check-each-spec = tie.close (tie.spec (λ s owed₀ i₀ owed i. (i ≤ length s) × (utf8-after (wanted-by owed) (drop i s) ≡ utf8 s)) (λ s owed₀ i₀ owed i. length s - i)
+    (λ c. unfold utf8 ranges in (search needs, refl)) (λ c. search needs) (λ c κs. search needs) (λ c. search needs)
     (λ c. search needs)
     (λ c. let turn = c .before .before .before .before in
     never _ _ _ (turn .before .loop .inv .1) (turn .loop-test .taken) _ (c .before .before .step .ensures) (c .enum-told .given .1))

@@ -8,15 +8,9 @@ use Rattle.utf8.proofs.Turns.{found, passed, not-there}
 use Rattle.utf8.proofs.has_quote.Statement.{statement}
 use Rattle.utf8.proofs.has_quote.Tie as tie
 
-abbrev Inv-loop : tie.InvT-loop
-Inv-loop s i₀ i = (i ≤ length s) × (has 34 (drop i s) ≡ has 34 s)
-
-abbrev μ-loop : tie.MeasureT-loop
-μ-loop s i₀ i = length s - i
-
 pub has-quote-spec : {M : Type 1} → statement M
-has-quote-spec =
-    tie.close (tie.spec Inv-loop μ-loop (λ c. (search needs, refl)) (λ c. search needs)
+has-quote-spec = tie.close (tie.spec (λ s i₀ i. (i ≤ length s) × (has 34 (drop i s) ≡ has 34 s)) (λ s i₀ i. length s - i)
+    (λ c. (search needs, refl)) (λ c. search needs)
     (λ c. let turn = c .before .before in
     found _ _ _ (turn .before .loop .inv .1) (turn .loop-test .taken) (c .if1 .taken))
     (λ c. search needs) (λ c. search needs)

@@ -7,8 +7,7 @@ use Rattle.utf8.proofs.step.Statement.{statement}
 use Rattle.utf8.proofs.step.Tie as tie
 
 pub step-spec : {M : Type 1} → statement M
-step-spec =
-    tie.close (tie.spec (λ c κs. search needs)
+step-spec = tie.close (tie.spec (λ c κs. search needs)
     (λ c. c .begin .ensures ∙ first _ _ _ _ (c .before .if1 .taken))
     (λ c. too-low _ _ _ _ (c .before .before .if1 .left) (c .if2 .taken))
     (λ c. too-high _ _ _ _ (c .before .before .before .before .if1 .left) (c .if3 .taken)) (λ c. search needs) (λ c κs. search needs)

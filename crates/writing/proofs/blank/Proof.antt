@@ -7,15 +7,9 @@ use Rattle.writing.proofs.Copies.{Copied, none-copied, one-more, all-co
 use Rattle.writing.proofs.blank.Statement.{statement}
 use Rattle.writing.proofs.blank.Tie as tie
 
-abbrev Inv-loop : tie.InvT-loop
-Inv-loop to₀ i₀ to i = Copied (replicate (length to₀) 32) (length to₀) to i
-
-abbrev μ-loop : tie.MeasureT-loop
-μ-loop to₀ i₀ to i = length to₀ - i
-
 pub blank-spec : {M : Type 1} → statement M
-blank-spec =
-    tie.close (tie.spec Inv-loop μ-loop (λ c. none-copied (length-replicate _ _) refl) (λ c. search needs) (λ c. search needs) (λ c. search needs)
+blank-spec = tie.close (tie.spec (λ to₀ i₀ to i. Copied (replicate (length to₀) 32) (length to₀) to i) (λ to₀ i₀ to i. length to₀ - i)
+    (λ c. none-copied (length-replicate _ _) refl) (λ c. search needs) (λ c. search needs) (λ c. search needs)
     (λ c. let here : c .before .loop .i < length (c .before .before .args .to .now) = search needs in
     one-more (c .before .loop .inv) here _ (getD-replicate _ _ _ _ here))
     (λ c. search needs) (λ c. all-copied (c .before .loop .inv) (search needs)))

@@ -7,14 +7,8 @@ use Rattle.writing.proofs.Copies.{Copied, none-copied, one-more, all-co
 use Rattle.writing.proofs.copy.Statement.{statement}
 use Rattle.writing.proofs.copy.Tie as tie
 
-abbrev Inv-loop : tie.InvT-loop
-Inv-loop to₀ s i₀ to i = Copied s (length s) to i
-
-abbrev μ-loop : tie.MeasureT-loop
-μ-loop to₀ s i₀ to i = length s - i
-
 pub copy-spec : {M : Type 1} → statement M
-copy-spec =
-    tie.close (tie.spec Inv-loop μ-loop (λ c. none-copied refl (c .pre)) (λ c. search needs) (λ c. search needs) (λ c. search needs) (λ c. search needs)
+copy-spec = tie.close (tie.spec (λ to₀ s i₀ to i. Copied s (length s) to i) (λ to₀ s i₀ to i. length s - i)
+    (λ c. none-copied refl (c .pre)) (λ c. search needs) (λ c. search needs) (λ c. search needs) (λ c. search needs)
     (λ c. one-more (c .before .before .loop .inv) (c .before .loop-test .taken) _ refl) (λ c. search needs)
     (λ c. all-copied (c .before .loop .inv) (c .loop-test .left)))

@@ -6,5 +6,4 @@ use Rattle.writing.proofs.moved_on.Statement.{statement}
 use Rattle.writing.proofs.moved_on.Tie as tie
 
 pub moved-on-spec : {M : Type 1} → statement M
-moved-on-spec =
-    tie.close (tie.spec (λ c. search needs) (λ c. search needs) (λ c. unfold moved in omega arith) (λ c. unfold moved in omega arith))
+moved-on-spec = tie.close (tie.spec (λ c. search needs) (λ c. search needs) (λ c. unfold moved in omega arith) (λ c. unfold moved in omega arith))

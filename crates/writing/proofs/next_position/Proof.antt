@@ -5,5 +5,4 @@ use Rattle.writing.proofs.next_position.Statement.{statement}
 use Rattle.writing.proofs.next_position.Tie as tie
 
 pub next-position-spec : {M : Type 1} → statement M
-next-position-spec =
-    tie.close (tie.spec (λ c. search needs) (λ c. moves _ (c .if1 .taken)) (λ c. stays _ (c .if1 .left)))
+next-position-spec = tie.close (tie.spec (λ c. search needs) (λ c. moves _ (c .if1 .taken)) (λ c. stays _ (c .if1 .left)))

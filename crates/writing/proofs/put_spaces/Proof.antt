@@ -3,7 +3,7 @@ use mathlib.Core.Logic.{⊎-elim}
 use native.Mathlib.Omega.{arith}
 use lib.ListN.{length-replicate}
 use borrow.Author.Needs.{needs}
-use Rattle.writing.specs.Laws.{kept}
+use Rattle.writing.proofs.Laws.{kept}
 use Rattle.writing.proofs.Parts.{all-spaces-fit, some-spaces-fit, past-the-end}
 use Rattle.writing.proofs.put_spaces.Statement.{statement}
 use Rattle.writing.proofs.put_spaces.Tie as tie
@@ -17,8 +17,7 @@ returns-2 c =
     (c .before .if1 .came)
 
 pub put-spaces-spec : {M : Type 1} → statement M
-put-spaces-spec =
-    tie.close (tie.spec (λ c. search needs) (λ c. search needs) (λ c. search needs) (λ c. search needs) (λ c. search needs) (λ c κs. search needs)
+put-spaces-spec = tie.close (tie.spec (λ c. search needs) (λ c. search needs) (λ c. search needs) (λ c. search needs) (λ c. search needs) (λ c κs. search needs)
     (λ c. search needs) (λ c. search needs)
     (λ c. let put = c .before .before in
     let room = put .before .before in

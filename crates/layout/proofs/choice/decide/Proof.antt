@@ -2,15 +2,15 @@
 use mathlib.Core.Path.{refl}
 use Rattle.shapes.proofs.Numbers.{line, lines}
 use Rattle.layout.specs.Said.{said}
-use Rattle.layout.proofs.ChoiceLaws.{decided-block, decided-over, decided-within}
+use Rattle.layout.specs.LaidIn.{decided}
+use Rattle.layout.proofs.ChoiceLaws.{decided-over, decided-within}
 use borrow.Author.Needs.{needs}
 use Rattle.layout.proofs.choice.decide.Statement.{statement}
 use Rattle.layout.proofs.choice.decide.Tie as tie
 
 pub decide-spec : {M : Type 1} → statement M
-decide-spec =
-    tie.close (tie.spec (λ c κs. search needs) (λ c κs. search needs) (λ c. search needs)
-    (λ c. decided-block _ _ _ _ (lines _ (c .before .before .before .before .before .is-block .ensures) refl refl (c .before .before .before .before .if1 .taken)) (c .before .before .indented .ensures))
+decide-spec = tie.close (tie.spec (λ c κs. search needs) (λ c κs. search needs) (λ c. search needs)
+    (λ c. unfold decided in rw (lines _ (c .before .before .before .before .before .is-block .ensures) refl refl (c .before .before .before .before .if1 .taken)) (c .before .before .indented .ensures))
     (λ c κs. search needs) (λ c κs. search needs) (λ c κs. search needs) (λ c κs. search needs) (λ c. search needs)
     (λ c. decided-over _ _ _ _ (line _ (c .before .before .before .before .before .before .before .before .before .is-block .ensures) (c .before .before .before .before .before .before .before .first .ensures) (c .before .before .before .before .before .before .second .ensures) (c .before .before .before .before .before .before .before .before .if1 .left)) (c .before .before .before .before .before .saturating-sub .ensures) (c .before .before .before .before .if2 .taken) (c .before .before .indented2 .ensures))
     (λ c κs. search needs) (λ c κs. search needs)

@@ -1,14 +1,13 @@
 -- `layout::choice::room` meets its contract: by the shape so far.
 use mathlib.Core.Path.{refl}
 use Rattle.shapes.proofs.Numbers.{line, lines}
-use Rattle.layout.proofs.ChoiceLaws.{room-inline, room-block}
+use Rattle.rules.specs.Layout.{room}
 use borrow.Author.Needs.{needs}
 use Rattle.layout.proofs.choice.room.Statement.{statement}
 use Rattle.layout.proofs.choice.room.Tie as tie
 
 pub room-spec : {M : Type 1} → statement M
-room-spec =
-    tie.close (tie.spec (λ c κs. search needs) (λ c κs. search needs) (λ c κs. search needs)
-    (λ c. room-block _ _ (lines _ (c .before .before .before .is-block .ensures) refl (c .before .second .ensures) (c .before .before .if1 .taken)) (c .saturating-sub .ensures))
+room-spec = tie.close (tie.spec (λ c κs. search needs) (λ c κs. search needs) (λ c κs. search needs)
+    (λ c. unfold room in rw (lines _ (c .before .before .before .is-block .ensures) refl (c .before .second .ensures) (c .before .before .if1 .taken)) (c .saturating-sub .ensures))
     (λ c κs. search needs) (λ c κs. search needs)
-    (λ c. room-inline _ _ (line _ (c .before .before .before .is-block .ensures) (c .before .first .ensures) refl (c .before .before .if1 .left)) (c .saturating-sub2 .ensures)))
+    (λ c. unfold room in rw (line _ (c .before .before .before .is-block .ensures) (c .before .first .ensures) refl (c .before .before .if1 .left)) (c .saturating-sub2 .ensures)))

@@ -4,9 +4,9 @@ use native.Mathlib.Omega.{arith}
 use lib.ListN.{length}
 use borrow.Author.Needs.{needs}
 use mathlib.Core.Path.{_∙_}
-use Prim.Native.Nat.{ℕ, _+_, _*_, _-_, _<_}
-use borrow.Fn.Kinds.{In}
-use borrow.Fn.PlainCycle.{Measures, is, falls, and}
+use Prim.Native.Nat.{ℕ, _+_, _*_, _-_}
+use borrow.Fn.PlainCycle.{Measures}
+use Rattle.fields.proofs.Cycles.{at, below}
 use Rattle.rules.specs.Layout.{Inline}
 use Rattle.shapes.specs.Shapes.{shape}
 use Rattle.parts.proofs.Spans.{end-after, end-within}
@@ -48,132 +48,13 @@ abbrev μ-approx-fragments-layout : Measures 1 approx-fragments-layout-kinds.ps 
 abbrev μ-approx-layout : Measures 1 approx-layout-kinds.ps ℕ
 μ-approx-layout κs a = 3 * a .1 .1 .1 .0 + 1
 
-abbrev approx-flex-layout-at : ℕ → In 1 approx-flex-layout-kinds.ps
-approx-flex-layout-at t =
-    and
-    1
-    approx-flex-layout-kinds.ps
-    (is 1 approx-flex-layout-kinds.ps μ-approx-flex-layout t)
-    approx-flex-layout.Pre
-
-abbrev approx-flex-layout-below : ℕ → In 1 approx-flex-layout-kinds.ps
-approx-flex-layout-below t =
-    and
-    1
-    approx-flex-layout-kinds.ps
-    (falls 1 approx-flex-layout-kinds.ps _<_ μ-approx-flex-layout t)
-    approx-flex-layout.Pre
-
-abbrev approx-fragments-layout-at : ℕ → In 1 approx-fragments-layout-kinds.ps
-approx-fragments-layout-at t =
-    and
-    1
-    approx-fragments-layout-kinds.ps
-    (is 1 approx-fragments-layout-kinds.ps μ-approx-fragments-layout t)
-    approx-fragments-layout.Pre
-
-abbrev approx-fragments-layout-below : ℕ → In 1 approx-fragments-layout-kinds.ps
-approx-fragments-layout-below t =
-    and
-    1
-    approx-fragments-layout-kinds.ps
-    (falls 1 approx-fragments-layout-kinds.ps _<_ μ-approx-fragments-layout t)
-    approx-fragments-layout.Pre
-
-abbrev approx-layout-at : ℕ → In 1 approx-layout-kinds.ps
-approx-layout-at t =
-    and 1 approx-layout-kinds.ps (is 1 approx-layout-kinds.ps μ-approx-layout t) approx-layout.Pre
-
-abbrev approx-layout-below : ℕ → In 1 approx-layout-kinds.ps
-approx-layout-below t =
-    and
-    1
-    approx-layout-kinds.ps
-    (falls 1 approx-layout-kinds.ps _<_ μ-approx-layout t)
-    approx-layout.Pre
-
-abbrev approx-flex-layout-given : ℕ → approx-flex-layout-lts.Claims
-approx-flex-layout-given t = (laid-out-reads.Asked, laid-out-reads.Learnt, saturating-sub-reads.Asked, saturating-sub-reads.Learnt, approx-fragments-layout-below t, approx-fragments-layout.Post, block-or-mixed-reads.Asked, block-or-mixed-reads.Learnt, append-reads.Asked, append-reads.Learnt, room-reads.Asked, room-reads.Learnt, larger-reads.Asked, larger-reads.Learnt, decide-reads.Asked, decide-reads.Learnt)
-
-abbrev approx-fragments-layout-given : ℕ → approx-fragments-layout-lts.Claims
-approx-fragments-layout-given t = (inline-reads.Asked, inline-reads.Learnt, field-end-reads.Asked, field-end-reads.Learnt, approx-layout-below t, approx-layout.Post, append-reads.Asked, append-reads.Learnt, saturating-add-reads.Asked, saturating-add-reads.Learnt)
-
-abbrev approx-fragments-layout-Inv-loop : approx-fragments-layout-lts.InvT-loop
-approx-fragments-layout-Inv-loop s₀ widths left layout₀ changed₀ at₀ s layout changed at = Part (with-fragment (fragment-in left (widths .inline) (widths .block) 3)) 3 (Inline 0 0, 0) s₀ at (shape layout, changed) s
-
-abbrev approx-fragments-layout-μ-loop : approx-fragments-layout-lts.MeasureT-loop
-approx-fragments-layout-μ-loop s₀ widths left layout₀ changed₀ at₀ s layout changed at = length s₀ - at
-
-abbrev approx-layout-given : ℕ → approx-layout-lts.Claims
-approx-layout-given t = (inline-reads.Asked, inline-reads.Learnt, entered-reads.Asked, entered-reads.Learnt, field-end-reads.Asked, field-end-reads.Learnt, approx-flex-layout-below t, approx-flex-layout.Post, behind-reads.Asked, behind-reads.Learnt, saturating-add-reads.Asked, saturating-add-reads.Learnt, laid-out-reads.Asked, laid-out-reads.Learnt)
-
-abbrev approx-layout-Inv-loop : approx-layout-lts.InvT-loop
-approx-layout-Inv-loop s₀ from widths left st₀ changed₀ node₀ s st changed node = Going (flex-in left (widths .inline) (widths .block)) from s₀ node (said-stretch st) changed s
-
-abbrev approx-layout-μ-loop : approx-layout-lts.MeasureT-loop
-approx-layout-μ-loop s₀ from widths left st₀ changed₀ node₀ s st changed node = length s₀ - node
-
-approx-layout-part-approx-flex-layout-start :
-    (t : ℕ) → approx-layout-lts.Need-part-approx-flex-layout-start (
-      inline-reads.Asked,
-      inline-reads.Learnt,
-      entered-reads.Asked,
-      entered-reads.Learnt,
-      field-end-reads.Asked,
-      field-end-reads.Learnt,
-      approx-flex-layout-below t,
-      approx-flex-layout.Post,
-      behind-reads.Asked,
-      behind-reads.Learnt,
-      saturating-add-reads.Asked,
-      saturating-add-reads.Learnt,
-      laid-out-reads.Asked,
-      laid-out-reads.Learnt,
-    ) (approx-layout-at t) approx-layout.Post approx-layout-Inv-loop approx-layout-μ-loop
-approx-layout-part-approx-flex-layout-start t c = omega (arith, end-after (c .field-end .ensures) (c .before .before .before .before .loop-test .taken))
-
-approx-layout-part-approx-flex-layout-end :
-    (t : ℕ) → approx-layout-lts.Need-part-approx-flex-layout-end (
-      inline-reads.Asked,
-      inline-reads.Learnt,
-      entered-reads.Asked,
-      entered-reads.Learnt,
-      field-end-reads.Asked,
-      field-end-reads.Learnt,
-      approx-flex-layout-below t,
-      approx-flex-layout.Post,
-      behind-reads.Asked,
-      behind-reads.Learnt,
-      saturating-add-reads.Asked,
-      saturating-add-reads.Learnt,
-      laid-out-reads.Asked,
-      laid-out-reads.Learnt,
-    ) (approx-layout-at t) approx-layout.Post approx-layout-Inv-loop approx-layout-μ-loop
-approx-layout-part-approx-flex-layout-end t c = end-within (c .field-end .ensures) (c .before .before .before .before .loop-test .taken)
-
-approx-layout-approx-flex-layout-requires :
-    (t : ℕ) → approx-layout-lts.Need-approx-flex-layout-requires (
-      inline-reads.Asked,
-      inline-reads.Learnt,
-      entered-reads.Asked,
-      entered-reads.Learnt,
-      field-end-reads.Asked,
-      field-end-reads.Learnt,
-      approx-flex-layout-below t,
-      approx-flex-layout.Post,
-      behind-reads.Asked,
-      behind-reads.Learnt,
-      saturating-add-reads.Asked,
-      saturating-add-reads.Learnt,
-      laid-out-reads.Asked,
-      laid-out-reads.Learnt,
-    ) (approx-layout-at t) approx-layout.Post approx-layout-Inv-loop approx-layout-μ-loop
-approx-layout-approx-flex-layout-requires t c κs = (omega (arith, c .before .before .before .before .before .before .before .before .before .pre .0), tt)
-
 pub +approx-flex-layout+approx-fragments-layout+approx-layout-spec : {M : Type 1} → statement M
 +approx-flex-layout+approx-fragments-layout+approx-layout-spec =
-    close μ-approx-flex-layout μ-approx-fragments-layout μ-approx-layout (λ t. approx-flex-layout-lts.spec (approx-flex-layout-given t) (
-    approx-flex-layout-at t) approx-flex-layout.Post (λ c κs. search needs)
+    close μ-approx-flex-layout μ-approx-fragments-layout μ-approx-layout
+    (λ t. approx-flex-layout-lts.spec
+    (laid-out-reads.Asked, laid-out-reads.Learnt, saturating-sub-reads.Asked, saturating-sub-reads.Learnt, below 1 approx-fragments-layout-kinds.ps μ-approx-fragments-layout approx-fragments-layout.Pre t, approx-fragments-layout.Post, block-or-mixed-reads.Asked, block-or-mixed-reads.Learnt, append-reads.Asked, append-reads.Learnt, room-reads.Asked, room-reads.Learnt, larger-reads.Asked, larger-reads.Learnt, decide-reads.Asked, decide-reads.Learnt)
+    (at 1 approx-flex-layout-kinds.ps μ-approx-flex-layout approx-flex-layout.Pre t) approx-flex-layout.Post
+    (λ c κs. search needs)
     (λ c. says (c .laid-out .ensures) (no-depth _ _ _ _ _ (c .before .if1 .taken))) (λ c κs. search needs)
     (λ c. says (c .laid-out2 .ensures) (no-bytes _ _ _ _ _ (c .before .if2 .taken))) (λ c. omega arith) (λ c κs. search needs) (λ c. omega arith)
     (λ c κs. (omega (arith, c .before .before .before .before .before .before .before .pre .0), tt)) (λ c κs. search needs) (λ c κs. search needs)
@@ -186,9 +67,11 @@ pub +approx-flex-layout+approx-fragments-layout+approx-layout-spec : {M : Type 1
     (λ c κs. (omega (arith, c .before .before .before .before .before .before .before .before .before .before .pre .0), tt))
     (λ c κs. omega (arith, c .before .before .before .approx-fragments-layout2 .kept .0))
     (λ c. c .before .before .decide .kept .0 ∙ c .before .before .before .before .before .before .approx-fragments-layout2 .kept .0)
-    (λ c. unfold said in tag-four _ _ _ _ _ (c .before .before .before .before .before .before .before .before .before .before .if4 .left) (c .before .before .before .before .before .before .before .before .before .before .before .before .before .before .before .if1 .left) (c .before .before .before .before .before .before .before .before .before .before .before .before .saturating-sub .ensures) (c .before .before .before .before .before .before .before .before .before .room .ensures) (c .before .before .before .before .before .before .before .larger .ensures) (c .before .before .before .before .before .before .approx-fragments-layout2 .ensures) (c .before .before .decide .ensures))
-    ) (λ t. approx-fragments-layout-lts.spec (approx-fragments-layout-given t) (approx-fragments-layout-at t) approx-fragments-layout.Post
-    approx-fragments-layout-Inv-loop approx-fragments-layout-μ-loop (λ c κs. search needs) (λ c. fragments-start _ _ (c .inline .ensures))
+    (λ c. unfold said in tag-four _ _ _ _ _ (c .before .before .before .before .before .before .before .before .before .before .if4 .left) (c .before .before .before .before .before .before .before .before .before .before .before .before .before .before .before .if1 .left) (c .before .before .before .before .before .before .before .before .before .before .before .before .saturating-sub .ensures) (c .before .before .before .before .before .before .before .before .before .room .ensures) (c .before .before .before .before .before .before .before .larger .ensures) (c .before .before .before .before .before .before .approx-fragments-layout2 .ensures) (c .before .before .decide .ensures)))
+    (λ t. approx-fragments-layout-lts.spec
+    (inline-reads.Asked, inline-reads.Learnt, field-end-reads.Asked, field-end-reads.Learnt, below 1 approx-layout-kinds.ps μ-approx-layout approx-layout.Pre t, approx-layout.Post, append-reads.Asked, append-reads.Learnt, saturating-add-reads.Asked, saturating-add-reads.Learnt)
+    (at 1 approx-fragments-layout-kinds.ps μ-approx-fragments-layout approx-fragments-layout.Pre t) approx-fragments-layout.Post
+    (λ s₀ widths left layout₀ changed₀ at₀ s layout changed at. Part (with-fragment (fragment-in left (widths .inline) (widths .block) 3)) 3 (Inline 0 0, 0) s₀ at (shape layout, changed) s) (λ s₀ widths left layout₀ changed₀ at₀ s layout changed at. length s₀ - at) (λ c κs. search needs) (λ c. fragments-start _ _ (c .inline .ensures))
     (λ c κs. omega arith)
     (λ c. omega (arith, end-after (c .field-end .ensures) (omega arith)))
     (λ c. omega (arith, end-after (c .field-end .ensures) (omega arith))) (λ c. end-within (c .field-end .ensures) (omega arith))
@@ -196,11 +79,13 @@ pub +approx-flex-layout+approx-fragments-layout+approx-layout-spec : {M : Type 1
     (λ c. omega (arith, end-after (c .before .before .before .before .before .before .field-end .ensures) (c .before .before .before .before .before .before .before .before .loop-test .taken), end-within (c .before .before .before .before .before .before .field-end .ensures) (c .before .before .before .before .before .before .before .before .loop-test .taken), c .before .before .before .before .before .before .before .before .before .loop .inv .long))
     (λ c. unfold said in more (c .before .before .before .before .before .before .before .before .before .loop .inv) (c .before .before .before .before .before .before .before .before .loop-test .taken) (c .before .before .before .before .before .before .field-end .ensures) (fragment-more _ _ _ _ _ (c .before .before .before .before .approx-layout .ensures) (c .before .append .ensures) (c .saturating-add .ensures)) (c .before .before .before .before .approx-layout .kept .0))
     (λ c. c .before .loop .inv .long)
-    (λ c. unfold said fragments-in in ends (c .before .loop .inv) (c .loop-test .left))) λ t. approx-layout-lts.spec (approx-layout-given t) (
-    approx-layout-at t) approx-layout.Post approx-layout-Inv-loop approx-layout-μ-loop (λ c κs. search needs)
+    (λ c. unfold said fragments-in in ends (c .before .loop .inv) (c .loop-test .left)))
+    λ t. approx-layout-lts.spec
+    (inline-reads.Asked, inline-reads.Learnt, entered-reads.Asked, entered-reads.Learnt, field-end-reads.Asked, field-end-reads.Learnt, below 1 approx-flex-layout-kinds.ps μ-approx-flex-layout approx-flex-layout.Pre t, approx-flex-layout.Post, behind-reads.Asked, behind-reads.Learnt, saturating-add-reads.Asked, saturating-add-reads.Learnt, laid-out-reads.Asked, laid-out-reads.Learnt)
+    (at 1 approx-layout-kinds.ps μ-approx-layout approx-layout.Pre t) approx-layout.Post
+    (λ s₀ from widths left st₀ changed₀ node₀ s st changed node. Going (flex-in left (widths .inline) (widths .block)) from s₀ node (said-stretch st) changed s) (λ s₀ from widths left st₀ changed₀ node₀ s st changed node. length s₀ - node) (λ c κs. search needs)
     (λ c. unfold said-stretch in nodes-start _ _ _ (c .inline .ensures)) (λ c κs. search needs) (λ c κs. omega arith)
-    (λ c. omega (arith, end-after (c .field-end .ensures) (c .before .before .before .before .loop-test .taken))) (
-    approx-layout-part-approx-flex-layout-start t) (approx-layout-part-approx-flex-layout-end t) (approx-layout-approx-flex-layout-requires t)
+    (λ c. omega (arith, end-after (c .field-end .ensures) (c .before .before .before .before .loop-test .taken))) (λ c. omega (arith, end-after (c .field-end .ensures) (c .before .before .before .before .loop-test .taken))) (λ c. end-within (c .field-end .ensures) (c .before .before .before .before .loop-test .taken)) (λ c κs. (omega (arith, c .before .before .before .before .before .before .before .before .before .pre .0), tt))
     (λ c κs. search needs) (λ c κs. search needs)
     (λ c. omega (arith, end-after (c .before .before .before .before .before .before .field-end .ensures) (c .before .before .before .before .before .before .before .before .before .before .loop-test .taken), end-within (c .before .before .before .before .before .before .field-end .ensures) (c .before .before .before .before .before .before .before .before .before .before .loop-test .taken), c .before .before .before .before .before .before .before .before .before .before .before .loop .inv .part .long))
     (λ c. unfold said said-stretch in nodes-turn (c .before .before .before .before .before .before .before .before .before .before .before .loop .inv) (c .before .before .before .before .before .before .before .before .before .before .loop-test .taken) (c .before .before .before .before .before .before .field-end .ensures) (c .before .before .before .before .before .before .before .before .entered .ensures) (c .before .before .before .before .approx-flex-layout .ensures) (c .before .before .before .before .approx-flex-layout .kept .0) (c .before .behind .ensures) (c .saturating-add .ensures))

@@ -1,34 +1,26 @@
 -- `layout::stretch::ahead` meets its contract. The loop's invariant: what is left of the stretch.
 use mathlib.Core.Path.{refl}
 use Prim.Native.Nat.{_-_}
-use native.Mathlib.Nat.{le-of-lt}
 use native.Mathlib.Omega.{arith}
 use lib.ListN.{length}
 use borrow.Author.Needs.{needs}
 use Rattle.shapes.specs.Shapes.{shape}
 use Rattle.shapes.proofs.Numbers.{line, lines}
-use Rattle.parts.proofs.Spans.{end-after, end-within}
+use Rattle.parts.proofs.Spans.{end-rises, end-within, end-less}
 use Rattle.layout.specs.Said.{said-stretch}
 use Rattle.layout.specs.LaidIn.{stretch-in}
 use Rattle.layout.proofs.StretchLaws.{Ahead, ahead-starts, ahead-on, ahead-stops, ahead-ends}
 use Rattle.layout.proofs.stretch.ahead.Statement.{statement}
 use Rattle.layout.proofs.stretch.ahead.Tie as tie
 
-abbrev Inv-loop : tie.InvT-loop
-Inv-loop s from so-far layout₀ at₀ layout at = Ahead s (stretch-in from (shape so-far) s) at (shape layout)
-
-abbrev μ-loop : tie.MeasureT-loop
-μ-loop s from so-far layout₀ at₀ layout at = length s - at
-
 pub ahead-spec : {M : Type 1} → statement M
-ahead-spec =
-    tie.close (tie.spec Inv-loop μ-loop (λ c. ahead-starts _ _ _) (λ c κs. omega arith)
-    (λ c. le-of-lt (end-after (c .field-end .ensures) (c .before .loop-test .taken)))
-    (λ c. le-of-lt (end-after (c .field-end .ensures) (c .before .loop-test .taken)))
-    (λ c. end-within (c .field-end .ensures) (c .before .loop-test .taken)) (λ c κs. search needs) (λ c κs. search needs) (λ c κs. search needs)
+ahead-spec = tie.close (tie.spec (λ s from so-far layout₀ at₀ layout at. Ahead s (stretch-in from (shape so-far) s) at (shape layout))
+    (λ s from so-far layout₀ at₀ layout at. length s - at)
+    (λ c. ahead-starts _ _ _) (λ c κs. omega arith) (λ c. search end-rises) (λ c. search end-rises) (λ c. search end-within)
+    (λ c κs. search needs) (λ c κs. search needs) (λ c κs. search needs)
     (λ c κs. search needs) (λ c κs. search needs) (λ c κs. search needs)
     (λ c. unfold said-stretch in ahead-stops (c .before .before .before .before .before .before .before .before .before .before .loop .inv) (c .before .before .before .before .before .before .before .before .before .loop-test .taken) (c .before .before .before .before .before .before .before .before .field-end .ensures) (c .before .before .before .before .before .before .approx-rigid-layout .ensures) (lines _ (c .before .before .before .before .before .is-block .ensures) (c .before .before .before .first .ensures) (c .second .ensures) (c .before .before .before .before .if1 .taken)) (c .before .before .inline .ensures) (c .before .append .ensures))
     (λ c κs. search needs)
-    (λ c. omega (arith, end-after (c .before .before .before .before .before .field-end .ensures) (c .before .before .before .before .before .before .loop-test .taken), end-within (c .before .before .before .before .before .field-end .ensures) (c .before .before .before .before .before .before .loop-test .taken)))
+    (λ c. search end-less)
     (λ c. ahead-on (c .before .before .before .before .before .before .before .loop .inv) (c .before .before .before .before .before .before .loop-test .taken) (c .before .before .before .before .before .field-end .ensures) (c .before .before .before .approx-rigid-layout .ensures) (line _ (c .before .before .is-block .ensures) refl refl (c .before .if1 .left)) (c .append2 .ensures))
     (λ c. unfold said-stretch in ahead-ends (c .before .loop .inv) (c .loop-test .left)))

@@ -1,18 +1,19 @@
 -- `layout::whole::layout_with_max_line_width` meets its contract: the two tests, the check, and the tree's layout by its bytes.
 use native.Mathlib.Omega.{arith}
 use borrow.Author.Needs.{needs}
-use Rattle.rules.specs.Result.{said, refusal}
+use borrow.Author.Tests.{le-leb, lt-leb}
+use Rattle.rules.specs.Answers.{laid-out, left-laid, layout-outcome}
+use Rattle.rules.specs.Result.{_>>=_, _>>_, need, said, refusal}
 use Rattle.verify.proofs.Verdicts.{every-byte}
 use Rattle.layout.specs.Said as laid
-use Rattle.layout.proofs.WholeLaws.{long-outcome, wide-outcome, refused-outcome, laid-outcome}
+use Rattle.layout.proofs.WholeLaws.{refused-outcome, laid-outcome}
 use Rattle.layout.proofs.whole.layout_with_max_line_width.Statement.{statement}
 use Rattle.layout.proofs.whole.layout_with_max_line_width.Tie as tie
 
 pub layout-with-max-line-width-spec : {M : Type 1} → statement M
-layout-with-max-line-width-spec =
-    tie.close (tie.spec
-    (λ c. unfold said refusal in long-outcome _ _ (c .if1 .taken))
-    (λ c. unfold said refusal in wide-outcome _ _ (c .before .if1 .left) (c .if2 .taken)) (λ c κs. search needs) (λ c. search needs) (λ c. search needs)
+layout-with-max-line-width-spec = tie.close (tie.spec
+    (λ c. unfold said refusal layout-outcome laid-out left-laid need _>>_ _>>=_ in rw (lt-leb _ _ (c .if1 .taken)))
+    (λ c. unfold said refusal layout-outcome laid-out left-laid need _>>_ _>>=_ in rw (le-leb _ _ (c .before .if1 .left), lt-leb _ _ (c .if2 .taken))) (λ c κs. search needs) (λ c. search needs) (λ c. search needs)
     (λ c. search needs)
     (λ c. refused-outcome _ _ (c .before .before .before .before .before .if1 .left) (c .before .before .before .before .if2 .left) _ (c .enum-told .given .1) (c .before .before .check .ensures))
     (λ c κs. search needs) (λ c κs. search needs) (λ c. search needs) (λ c. search needs)

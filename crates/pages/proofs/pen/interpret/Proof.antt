@@ -6,8 +6,7 @@ use Rattle.pages.proofs.pen.interpret.Statement.{statement}
 use Rattle.pages.proofs.pen.interpret.Tie as tie
 
 pub interpret-spec : {M : Type 1} → statement M
-interpret-spec =
-    tie.close (tie.spec (λ c κs. search needs)
+interpret-spec = tie.close (tie.spec (λ c κs. search needs)
     (λ c κs. indent-fits _ _ (c .before .before .before .pre) (c .machine-in .ensures)) (λ c κs. search needs) (λ c κs. search needs)
     (λ c κs. search needs)
     (λ c κs. step-fits _ _ _ _ _ (c .before .before .before .before .before .before .before .before .before .before .before .before .before .before .before .pre) (c .before .before .before .before .before .before .before .before .before .before .before .before .machine-in .ensures) (c .before .before .before .before .before .before .before .before .before .before .before .step .ensures))

@@ -1,13 +1,14 @@
 -- `pages::state::line_number` meets its contract, line by line.
 use native.Mathlib.Omega.{arith}
-use Rattle.pages.proofs.StateLaws.{empty-number, indented-number, has-text-number}
+use Rattle.lines.specs.Said.{line-of}
+use Rattle.pages.specs.States.{line-numbered}
+use Rattle.pages.proofs.StateLaws.{indented-number}
 use borrow.Author.Needs.{needs}
 use Rattle.pages.proofs.state.line_number.Statement.{statement}
 use Rattle.pages.proofs.state.line_number.Tie as tie
 
 pub line-number-spec : {M : Type 1} → statement M
-line-number-spec =
-    tie.close (tie.spec (λ c. search needs) (λ c. search needs)
+line-number-spec = tie.close (tie.spec (λ c. search needs) (λ c. search needs)
     (λ c. record { fits = omega (arith, indented-number _ (c .before .line .given .1) (c .before .before .before .pre) .1) }) (λ c. search needs)
-    (λ c. empty-number _ (c .enum-told .given .1))
-    (λ c. indented-number _ (c .before .line .given .1) (c .before .before .before .pre)) (λ c. has-text-number _ (c .enum-told2 .given .1)))
+    (λ c. unfold line-numbered line-of in (rw (c .enum-told .given .1), omega arith))
+    (λ c. indented-number _ (c .before .line .given .1) (c .before .before .before .pre)) (λ c. unfold line-numbered line-of in (rw (c .enum-told2 .given .1), omega arith)))

@@ -1,12 +1,12 @@
 -- `pages::state::line_numbered` meets its contract: 0, 1, and the levels above.
 use native.Mathlib.Omega.{arith}
 use Rattle.lines.specs.Said.{line-of}
-use Rattle.pages.proofs.StateLaws.{empty-said, has-text-said, indented-said}
+use Rattle.pages.specs.States.{line-numbered}
+use Rattle.pages.proofs.StateLaws.{indented-said}
 use borrow.Author.Needs.{needs}
 use Rattle.pages.proofs.state.line_numbered.Statement.{statement}
 use Rattle.pages.proofs.state.line_numbered.Tie as tie
 
 pub line-numbered-spec : {M : Type 1} → statement M
-line-numbered-spec =
-    tie.close (tie.spec (λ c. unfold line-of in empty-said _ (c .if1 .taken)) (λ c. unfold line-of in has-text-said _ (c .if2 .taken)) (λ c. search needs)
+line-numbered-spec = tie.close (tie.spec (λ c. unfold line-of line-numbered in rw (c .if1 .taken)) (λ c. unfold line-of line-numbered in rw (c .if2 .taken)) (λ c. search needs)
     (λ c. unfold line-of in indented-said _ (c .before .if1 .left) (c .if2 .left) (omega arith)))

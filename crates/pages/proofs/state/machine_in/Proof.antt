@@ -6,6 +6,5 @@ use Rattle.pages.proofs.state.machine_in.Statement.{statement}
 use Rattle.pages.proofs.state.machine_in.Tie as tie
 
 pub machine-in-spec : {M : Type 1} → statement M
-machine-in-spec =
-    tie.close (tie.spec (λ c κs. search needs) (λ c κs. search needs)
+machine-in-spec = tie.close (tie.spec (λ c κs. search needs) (λ c κs. search needs)
     (λ c. machine-said _ _ _ (c .before .line-numbered .ensures) (c .waiting-numbered .ensures) (omega arith)))

@@ -1,16 +1,16 @@
 -- `render_node`, `render_indented`, `render_fragments` and `render_fragment` meet their contracts: the blocks that are left fall; each loop's invariant is `Going`.
-use native.Mathlib.Nat.{le-of-lt}
 use native.Mathlib.Omega.{arith}
 use lib.ListN.{length}
 use borrow.Author.Needs.{needs}
-use Rattle.parts.proofs.Spans.{end-after, end-within}
-use Rattle.pages.specs.OpsIn.{node-in}
-use Rattle.pages.proofs.Running.{kept, deeper, broke}
-use Rattle.pages.proofs.Going.{Going, going-starts, going-more}
-use Rattle.pages.proofs.WalkLaws.{node-short, node-too-deep, node-three, node-four, node-leaf, no-three, a-three, fragment-ops, fragment-more, fragments-end, nodes-end}
-use Prim.Native.Nat.{ℕ, _+_, _*_, _-_, _<_}
-use borrow.Fn.Kinds.{In}
-use borrow.Fn.PlainCycle.{Measures, is, falls, and}
+use Rattle.parts.proofs.Spans.{end-rises, end-within, end-less}
+use borrow.Author.Tests.{le-leb, lt-leb}
+use Rattle.pages.specs.OpsIn.{node-by, fragments-by, node-in, three-in, fragment-in}
+use Rattle.pages.proofs.Running.{nothing, and-then, kept, quietly, deeper}
+use Rattle.pages.proofs.Going.{Going, going-starts, going-more, going-ends}
+use Rattle.pages.proofs.WalkLaws.{four-in, node-is, node-four, node-leaf, a-three, fragment-ops}
+use Prim.Native.Nat.{ℕ, _+_, _*_, _-_}
+use borrow.Fn.PlainCycle.{Measures}
+use Rattle.fields.proofs.Cycles.{at, below}
 use Rattle.pages.proofs.walk.render_fragment.Reads as render-fragment
 use Rattle.pages.proofs.walk.render_fragment.Kinds as render-fragment-kinds
 use Rattle.pages.proofs.walk.+render_fragment+render_fragments+render_indented+render_node.Lts-render_fragment as render-fragment-lts
@@ -46,167 +46,56 @@ abbrev μ-render-indented : Measures 2 render-indented-kinds.ps ℕ
 abbrev μ-render-node : Measures 2 render-node-kinds.ps ℕ
 μ-render-node κs a = 4 * a .1 .1 .1 .1 .0 + 1
 
-abbrev render-fragment-at : ℕ → In 2 render-fragment-kinds.ps
-render-fragment-at t =
-    and
-    2
-    render-fragment-kinds.ps
-    (is 2 render-fragment-kinds.ps μ-render-fragment t)
-    render-fragment.Pre
-
-abbrev render-fragment-below : ℕ → In 2 render-fragment-kinds.ps
-render-fragment-below t =
-    and
-    2
-    render-fragment-kinds.ps
-    (falls 2 render-fragment-kinds.ps _<_ μ-render-fragment t)
-    render-fragment.Pre
-
-abbrev render-fragments-at : ℕ → In 2 render-fragments-kinds.ps
-render-fragments-at t =
-    and
-    2
-    render-fragments-kinds.ps
-    (is 2 render-fragments-kinds.ps μ-render-fragments t)
-    render-fragments.Pre
-
-abbrev render-fragments-below : ℕ → In 2 render-fragments-kinds.ps
-render-fragments-below t =
-    and
-    2
-    render-fragments-kinds.ps
-    (falls 2 render-fragments-kinds.ps _<_ μ-render-fragments t)
-    render-fragments.Pre
-
-abbrev render-indented-at : ℕ → In 2 render-indented-kinds.ps
-render-indented-at t =
-    and
-    2
-    render-indented-kinds.ps
-    (is 2 render-indented-kinds.ps μ-render-indented t)
-    render-indented.Pre
-
-abbrev render-indented-below : ℕ → In 2 render-indented-kinds.ps
-render-indented-below t =
-    and
-    2
-    render-indented-kinds.ps
-    (falls 2 render-indented-kinds.ps _<_ μ-render-indented t)
-    render-indented.Pre
-
-abbrev render-node-at : ℕ → In 2 render-node-kinds.ps
-render-node-at t =
-    and 2 render-node-kinds.ps (is 2 render-node-kinds.ps μ-render-node t) render-node.Pre
-
-abbrev render-node-below : ℕ → In 2 render-node-kinds.ps
-render-node-below t =
-    and 2 render-node-kinds.ps (falls 2 render-node-kinds.ps _<_ μ-render-node t) render-node.Pre
-
-abbrev render-fragment-given : ℕ → render-fragment-lts.Claims
-render-fragment-given t = (field-end-reads.Asked, field-end-reads.Learnt, render-node-below t, render-node.Post)
-
-abbrev render-fragment-Inv-loop : render-fragment-lts.InvT-loop
-render-fragment-Inv-loop s from page₀ directly-in-block left p₀ at₀ page p at = Going (node-in left directly-in-block) at₀ s p₀ page₀ at p page
-
-abbrev render-fragment-μ-loop : render-fragment-lts.MeasureT-loop
-render-fragment-μ-loop s from page₀ directly-in-block left p₀ at₀ page p at = length s - at
-
-abbrev render-fragments-given : ℕ → render-fragments-lts.Claims
-render-fragments-given t = (field-end-reads.Asked, field-end-reads.Learnt, render-fragment-below t, render-fragment.Post, end-fragment-reads.Asked, end-fragment-reads.Learnt)
-
-abbrev render-fragments-Inv-loop : render-fragments-lts.InvT-loop
-render-fragments-Inv-loop s page₀ directly-in-block left p₀ at₀ page p at = Going (fragment-ops left directly-in-block) 3 s p₀ page₀ at p page
-
-abbrev render-fragments-μ-loop : render-fragments-lts.MeasureT-loop
-render-fragments-μ-loop s page₀ directly-in-block left p₀ at₀ page p at = length s - at
-
-abbrev render-indented-given : ℕ → render-indented-lts.Claims
-render-indented-given t = (interpret-reads.Asked, interpret-reads.Learnt, render-fragments-below t, render-fragments.Post)
-
-render-indented-slice-aggregate-interpret :
-    (t : ℕ) → render-indented-lts.Need-slice-aggregate-interpret (
-      interpret-reads.Asked,
-      interpret-reads.Learnt,
-      render-fragments-below t,
-      render-fragments.Post,
-    ) (render-indented-at t) render-indented.Post
-render-indented-slice-aggregate-interpret t c = search needs
-
-render-indented-slice-aggregate-interpret-2 :
-    (t : ℕ) → render-indented-lts.Need-slice-aggregate-interpret-2 (
-      interpret-reads.Asked,
-      interpret-reads.Learnt,
-      render-fragments-below t,
-      render-fragments.Post,
-    ) (render-indented-at t) render-indented.Post
-render-indented-slice-aggregate-interpret-2 t c = search needs
-
-render-indented-render-fragments-requires :
-    (t : ℕ) → render-indented-lts.Need-render-fragments-requires (
-      interpret-reads.Asked,
-      interpret-reads.Learnt,
-      render-fragments-below t,
-      render-fragments.Post,
-    ) (render-indented-at t) render-indented.Post
-render-indented-render-fragments-requires t c κs = (omega (arith, c .before .before .before .before .before .before .before .before .before .before .before .before .before .before .pre .0), omega (arith, broke (c .before .before .before .interpret2 .ensures) .indent-kept, deeper (c .before .before .before .before .before .before .before .before .interpret .ensures), c .before .before .before .before .before .before .before .before .before .before .before .before .before .before .pre .1))
-
-render-indented-slice-aggregate-interpret-3 :
-    (t : ℕ) → render-indented-lts.Need-slice-aggregate-interpret-3 (
-      interpret-reads.Asked,
-      interpret-reads.Learnt,
-      render-fragments-below t,
-      render-fragments.Post,
-    ) (render-indented-at t) render-indented.Post
-render-indented-slice-aggregate-interpret-3 t c = search needs
-
-render-indented-returns-2 : (t : ℕ) → render-indented-lts.Need-returns-2 (render-indented-given t) (render-indented-at t) render-indented.Post
+render-indented-returns-2 : (t : ℕ) → render-indented-lts.Need-returns-2 (interpret-reads.Asked, interpret-reads.Learnt, below 2 render-fragments-kinds.ps μ-render-fragments render-fragments.Pre t, render-fragments.Post) (at 2 render-indented-kinds.ps μ-render-indented render-indented.Pre t) render-indented.Post
 render-indented-returns-2 t c = a-three _ _ (c .before .before .before .before .before .before .before .before .before .before .before .before .before .before .before .before .before .before .before .if1 .left) (c .before .before .before .before .before .before .before .before .before .before .before .before .before .before .before .before .interpret .ensures) (c .before .before .before .before .before .before .before .before .before .before .before .interpret2 .ensures) (c .before .before .before .before .before .before .before .render-fragments .ensures) (c .before .before .interpret3 .ensures)
-
-abbrev render-node-given : ℕ → render-node-lts.Claims
-render-node-given t = (render-indented-below t, render-indented.Post, render-fragments-below t, render-fragments.Post, render-leaf-reads.Asked, render-leaf-reads.Learnt)
-
-render-node-returns-2 : (t : ℕ) → render-node-lts.Need-returns-2 (render-node-given t) (render-node-at t) render-node.Post
-render-node-returns-2 t c = node-three _ _ _ (c .before .before .before .before .before .before .if1 .left) (c .before .before .before .before .if2 .taken) (c .before .before .render-indented .ensures)
-
-render-node-returns-4 : (t : ℕ) → render-node-lts.Need-returns-4 (render-node-given t) (render-node-at t) render-node.Post
-render-node-returns-4 t c = node-four _ _ _ (c .before .before .before .before .before .before .before .before .if1 .left) (c .before .before .before .before .before .if3 .taken) (c .before .before .before .before .if4 .left) (c .before .before .render-fragments .ensures)
-
-render-node-returns-5 : (t : ℕ) → render-node-lts.Need-returns-5 (render-node-given t) (render-node-at t) render-node.Post
-render-node-returns-5 t c = node-leaf _ _ _ (c .before .before .before .before .before .before .before .before .if1 .left) (c .before .before .before .before .before .before .if2 .left) (c .before .before .before .before .before .if3 .left) (c .before .before .render-leaf .ensures)
 
 pub +render-fragment+render-fragments+render-indented+render-node-spec : {M : Type 1} → statement M
 +render-fragment+render-fragments+render-indented+render-node-spec =
-    close μ-render-fragment μ-render-fragments μ-render-indented μ-render-node (λ t. render-fragment-lts.spec (render-fragment-given t) (
-    render-fragment-at t) render-fragment.Post render-fragment-Inv-loop render-fragment-μ-loop (λ c. going-starts) (λ c κs. search needs)
-    (λ c. le-of-lt (end-after (c .field-end .ensures) (c .before .loop-test .taken)))
-    (λ c. le-of-lt (end-after (c .field-end .ensures) (c .before .loop-test .taken)))
-    (λ c. end-within (c .field-end .ensures) (c .before .loop-test .taken))
+    close μ-render-fragment μ-render-fragments μ-render-indented μ-render-node
+    (λ t. render-fragment-lts.spec
+    (field-end-reads.Asked, field-end-reads.Learnt, below 2 render-node-kinds.ps μ-render-node render-node.Pre t, render-node.Post)
+    (at 2 render-fragment-kinds.ps μ-render-fragment render-fragment.Pre t) render-fragment.Post
+    (λ s from page₀ directly-in-block left p₀ at₀ page p at. Going (node-in left directly-in-block) at₀ s p₀ page₀ at p page)
+    (λ s from page₀ directly-in-block left p₀ at₀ page p at. length s - at)
+    (λ c. going-starts) (λ c κs. search needs) (λ c. search end-rises) (λ c. search end-rises) (λ c. search end-within)
     (λ c κs. (omega (arith, c .before .before .before .before .before .before .before .pre .0), omega (arith, c .before .before .before .before .loop .inv .rendered .indent-kept, c .before .before .before .before .before .before .before .pre .1)))
-    (λ c. omega (arith, end-after (c .before .before .before .before .before .field-end .ensures) (c .before .before .before .before .before .before .loop-test .taken), end-within (c .before .before .before .before .before .field-end .ensures) (c .before .before .before .before .before .before .loop-test .taken)))
+    (λ c. search end-less)
     (λ c. going-more (c .before .before .before .before .before .before .before .loop .inv) (c .before .before .before .before .before .before .loop-test .taken) (c .before .before .before .before .before .field-end .ensures) (c .before .before .render-node .ensures))
     (λ c. kept (c .before .loop .inv .rendered))
-    (λ c. nodes-end _ _ (c .before .loop .inv) (c .loop-test .left))) (λ t. render-fragments-lts.spec (render-fragments-given t) (render-fragments-at t)
-    render-fragments.Post render-fragments-Inv-loop render-fragments-μ-loop (λ c. going-starts) (λ c κs. search needs)
-    (λ c. le-of-lt (end-after (c .field-end .ensures) (c .before .loop-test .taken)))
-    (λ c. le-of-lt (end-after (c .field-end .ensures) (c .before .loop-test .taken)))
-    (λ c. end-within (c .field-end .ensures) (c .before .loop-test .taken))
+    (λ c. unfold fragment-in in going-ends (c .before .loop .inv) (c .loop-test .left)))
+    (λ t. render-fragments-lts.spec
+    (field-end-reads.Asked, field-end-reads.Learnt, below 2 render-fragment-kinds.ps μ-render-fragment render-fragment.Pre t, render-fragment.Post, end-fragment-reads.Asked, end-fragment-reads.Learnt)
+    (at 2 render-fragments-kinds.ps μ-render-fragments render-fragments.Pre t) render-fragments.Post
+    (λ s page₀ directly-in-block left p₀ at₀ page p at. Going (fragment-ops left directly-in-block) 3 s p₀ page₀ at p page)
+    (λ s page₀ directly-in-block left p₀ at₀ page p at. length s - at)
+    (λ c. going-starts) (λ c κs. search needs) (λ c. search end-rises) (λ c. search end-rises) (λ c. search end-within)
     (λ c κs. (omega (arith, c .before .before .before .before .before .before .before .pre .0), omega (arith, c .before .before .before .before .loop .inv .rendered .indent-kept, c .before .before .before .before .before .before .before .pre .1)))
     (λ c κs. omega (arith, c .before .before .before .render-fragment .ensures .indent-kept, c .before .before .before .before .before .before .before .before .loop .inv .rendered .indent-kept, c .before .before .before .before .before .before .before .before .before .before .before .pre .1))
-    (λ c. omega (arith, end-after (c .before .before .before .before .before .before .before .before .before .field-end .ensures) (c .before .before .before .before .before .before .before .before .before .before .loop-test .taken), end-within (c .before .before .before .before .before .before .before .before .before .field-end .ensures) (c .before .before .before .before .before .before .before .before .before .before .loop-test .taken)))
-    (λ c. fragment-more _ _ (c .before .before .before .before .before .before .before .before .before .before .before .loop .inv) (c .before .before .before .before .before .before .before .before .before .before .loop-test .taken) (c .before .before .before .before .before .before .before .before .before .field-end .ensures) (c .before .before .before .before .before .before .render-fragment .ensures) (c .before .before .end-fragment .ensures))
+    (λ c. search end-less)
+    (λ c. unfold fragment-in fragment-ops in going-more (c .before .before .before .before .before .before .before .before .before .before .before .loop .inv) (c .before .before .before .before .before .before .before .before .before .before .loop-test .taken) (c .before .before .before .before .before .before .before .before .before .field-end .ensures) (and-then (c .before .before .before .before .before .before .render-fragment .ensures) (c .before .before .end-fragment .ensures)))
     (λ c. kept (c .before .loop .inv .rendered))
-    (λ c. fragments-end _ _ (c .before .loop .inv) (c .loop-test .left))) (λ t. render-indented-lts.spec (render-indented-given t) (render-indented-at t)
-    render-indented.Post (λ c. no-three _ _ (c .if1 .taken)) (render-indented-slice-aggregate-interpret t)
-    (λ c κs. omega (arith, c .before .before .before .before .before .pre .1)) (render-indented-slice-aggregate-interpret-2 t)
+    (λ c. unfold fragments-by fragment-ops in going-ends (c .before .loop .inv) (c .loop-test .left)))
+    (λ t. render-indented-lts.spec
+    (interpret-reads.Asked, interpret-reads.Learnt, below 2 render-fragments-kinds.ps μ-render-fragments render-fragments.Pre t, render-fragments.Post)
+    (at 2 render-indented-kinds.ps μ-render-indented render-indented.Pre t) render-indented.Post
+    (λ c. unfold three-in in rw (c .if1 .taken) nothing) (λ c. search needs)
+    (λ c κs. omega (arith, c .before .before .before .before .before .pre .1)) (λ c. search needs)
     (λ c κs. omega (arith, deeper (c .before .before .before .before .interpret .ensures), c .before .before .before .before .before .before .before .before .before .before .pre .1))
-    (λ c. omega arith) (render-indented-render-fragments-requires t) (render-indented-slice-aggregate-interpret-3 t)
-    (λ c κs. omega (arith, c .before .before .before .before .render-fragments .ensures .indent-kept, broke (c .before .before .before .before .before .before .before .before .interpret2 .ensures) .indent-kept, deeper (c .before .before .before .before .before .before .before .before .before .before .before .before .before .interpret .ensures), c .before .before .before .before .before .before .before .before .before .before .before .before .before .before .before .before .before .before .before .pre .1))
-    (λ c. kept (render-indented-returns-2 t c)) (render-indented-returns-2 t)) λ t. render-node-lts.spec (render-node-given t) (render-node-at t)
-    render-node.Post (λ c. node-short _ _ _ (c .if1 .taken)) (λ c. omega arith)
+    (λ c. omega arith)
+    (λ c κs. (omega (arith, c .before .before .before .before .before .before .before .before .before .before .before .before .before .before .pre .0), omega (arith, quietly (c .before .before .before .interpret2 .ensures) tt .indent-kept, deeper (c .before .before .before .before .before .before .before .before .interpret .ensures), c .before .before .before .before .before .before .before .before .before .before .before .before .before .before .pre .1)))
+    (λ c. search needs)
+    (λ c κs. omega (arith, c .before .before .before .before .render-fragments .ensures .indent-kept, quietly (c .before .before .before .before .before .before .before .before .interpret2 .ensures) tt .indent-kept, deeper (c .before .before .before .before .before .before .before .before .before .before .before .before .before .interpret .ensures), c .before .before .before .before .before .before .before .before .before .before .before .before .before .before .before .before .before .before .before .pre .1))
+    (λ c. kept (render-indented-returns-2 t c)) (render-indented-returns-2 t))
+    λ t. render-node-lts.spec
+    (below 2 render-indented-kinds.ps μ-render-indented render-indented.Pre t, render-indented.Post, below 2 render-fragments-kinds.ps μ-render-fragments render-fragments.Pre t, render-fragments.Post, render-leaf-reads.Asked, render-leaf-reads.Learnt)
+    (at 2 render-node-kinds.ps μ-render-node render-node.Pre t) render-node.Post
+    (λ c. unfold node-by in rw (node-is, lt-leb _ _ (c .if1 .taken)) nothing) (λ c. omega arith)
     (λ c κs. (omega (arith, c .before .before .before .before .before .before .pre .0), c .before .before .before .before .before .before .pre .1))
-    (λ c. kept (render-node-returns-2 t c)) (render-node-returns-2 t)
-    (λ c. node-too-deep _ _ _ (c .before .before .before .before .if1 .left) (c .before .if3 .taken) (c .if4 .taken)) (λ c. omega arith)
+    (λ c. kept (c .before .before .render-indented .ensures))
+    (λ c. unfold node-by in rw (node-is, le-leb _ _ (c .before .before .before .before .before .before .if1 .left), c .before .before .before .before .if2 .taken) (c .before .before .render-indented .ensures))
+    (λ c. unfold node-by four-in in rw (node-is, le-leb _ _ (c .before .before .before .before .if1 .left), c .before .if3 .taken, c .if4 .taken) nothing) (λ c. omega arith)
     (λ c κs. (omega (arith, c .before .before .before .before .before .before .before .before .pre .0), omega (arith, c .before .before .before .before .before .before .before .before .pre .1)))
-    (λ c. kept (render-node-returns-4 t c)) (render-node-returns-4 t) (λ c. omega arith) (λ c. omega arith) (λ c. search needs)
-    (λ c κs. omega (arith, c .before .before .before .before .before .before .before .before .pre .1)) (λ c. kept (render-node-returns-5 t c)) (
-    render-node-returns-5 t)
+    (λ c. kept (c .before .before .render-fragments .ensures))
+    (λ c. node-four _ _ _ (c .before .before .before .before .before .before .before .before .if1 .left) (c .before .before .before .before .before .if3 .taken) (c .before .before .before .before .if4 .left) (c .before .before .render-fragments .ensures)) (λ c. omega arith) (λ c. omega arith) (λ c. search needs)
+    (λ c κs. omega (arith, c .before .before .before .before .before .before .before .before .pre .1)) (λ c. kept (c .before .before .render-leaf .ensures))
+    (λ c. node-leaf _ _ _ (c .before .before .before .before .before .before .before .before .if1 .left) (c .before .before .before .before .before .before .if2 .left) (c .before .before .before .before .before .if3 .left) (c .before .before .render-leaf .ensures))

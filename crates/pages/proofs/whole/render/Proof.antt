@@ -10,8 +10,7 @@ use Rattle.pages.proofs.whole.render.Statement.{statement}
 use Rattle.pages.proofs.whole.render.Tie as tie
 
 pub render-spec : {M : Type 1} → statement M
-render-spec =
-    tie.close (tie.spec (λ c κs. search needs) (λ c κs. search needs) (λ c κs. search needs) (λ c κs. start-fits _ (c .before .start .ensures))
+render-spec = tie.close (tie.spec (λ c κs. search needs) (λ c κs. search needs) (λ c κs. search needs) (λ c κs. start-fits _ (c .before .start .ensures))
     (λ c κs. unfold start indent-of in omega (arith, ap (λ (m : Machine). m .level) (c .before .state-of .ensures .0 ∙ c .before .before .before .start .ensures)))
     (λ c κs. search needs) (λ c. search needs)
     (λ c. whole-page _ _ (c .before .before .before .before .before .before .before .before .before .before .before .before .before .put-head .ensures) (c .before .before .before .before .before .before .before .before .state-of .ensures .1 ∙ c .before .before .before .before .before .before .before .before .before .form-of .ensures) (c .before .before .before .before .before .before .before .before .state-of .ensures .0 ∙ c .before .before .before .before .before .before .before .before .before .before .start .ensures) (c .before .before .before .before .before .before .render-fragment .ensures) (c .before .before .put-foot .ensures)))

@@ -8,8 +8,7 @@ use Rattle.pages.proofs.whole.render_page.Statement.{statement}
 use Rattle.pages.proofs.whole.render_page.Tie as tie
 
 pub render-page-spec : {M : Type 1} → statement M
-render-page-spec =
-    tie.close (tie.spec (λ c κs. search needs) (λ c. search needs) (λ c. search needs)
+render-page-spec = tie.close (tie.spec (λ c κs. search needs) (λ c. search needs) (λ c. search needs)
     (λ c. kind-refused _ _ _ _ (c .enum-told .given .1) (c .before .before .check .ensures)) (λ c. search needs) (λ c. search needs)
     (λ c κs. search needs) (λ c. search needs)
     (λ c. unfold said refusal in kind-too-short _ _ _ (every-byte (c .before .before .before .before .before .before .before .before .before .before .before .args .file .now) (λ i. omega (arith, c .before .before .before .before .before .before .before .before .before .before .shared-slice-known .given i))) _ (c .before .before .before .before .before .before .a .given .1) (c .before .before .before .before .before .before .before .before .check .ensures) (c .before .before .before .render .ensures) (c .if1 .taken))

@@ -9,13 +9,10 @@ use lib.Dec.{leb, ltb, eqb}
 use lib.ListN.{length, length-append}
 use borrow.Author.Tests.{leb-true, ltb-true, eqb-true, ne-eqb, lt-leb}
 use Rattle.rules.specs.Bytes.{if_then_else_, within, has, number}
-use Rattle.rules.specs.Result.{accepted}
-use Rattle.rules.specs.Walk.{Fields, end, bytes, inside, Holder, in-styles, allowed, holds, content, right-length, right-opacity, right-size, tags, walk}
+use Rattle.rules.specs.Walk.{Fields, end, bytes, inside, Holder, in-styles, allowed, holds, content, right-length, right-opacity, right-size, tags}
 use Rattle.rules.specs.Tree.{Styles, bytes-of, signed-byte, styles-of}
 use Rattle.rules.specs.Encode.{field, encode-fields}
-use Rattle.rules.specs.Good.{Bytes, AllHold, Good}
-use Rattle.rules.specs.Answers.{itself}
-use Rattle.rules.proofs.Accepted.{walk-good}
+use Rattle.rules.specs.Good.{AllHold, Good}
 use Rattle.fields.specs.FieldAt.{field-at}
 use Rattle.fields.proofs.Encoded.{field-here, value-here}
 use Rattle.styles.specs.StylesIn.{no-styles, right-value, put-part, with-field, past-field, styles-from, styles-in}
@@ -163,10 +160,3 @@ over-none j i = record {
 pub good-styles : (j : Fields ℕ) (d before : ℕ) → Good in-styles d before j → styles-in (encode-fields j) ≡ styles-of j
 unfolding styles-in
 good-styles j d before G = from-fields j (length (encode-fields j)) d before [] no-styles (omega arith) G ∙ over-none j
-
--- the same, where the walk accepts the value of a 16
-pub walked-styles : (k d p : ℕ) (v : List ℕ) (i : Fields ℕ) → walk content itself k in-styles d 0 p v ≡ accepted i → length v ≤ k → Bytes v
-    → styles-in v ≡ styles-of i
-walked-styles k d p v i e l b =
-    let (G, ev) = walk-good content k in-styles d 0 p v i l b e in
-    ap styles-in (sym ev) ∙ good-styles i d 0 G

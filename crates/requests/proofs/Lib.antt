@@ -1,0 +1,2 @@
+-- Laws of the request at a place.
+pub mod Laws
