@@ -7,6 +7,7 @@ use native.Mathlib.Omega.{arith}
 use lib.Dec.{leb}
 use lib.ListN.{length, getD}
 use borrow.Author.Tests.{le-leb, lt-leb, ne-eqb, eq-eqb, eqb-true}
+use Rattle.rules.specs.Limits.{first-style}
 use Rattle.rules.specs.Bytes.{has, number, number-from}
 use Rattle.rules.specs.Utf8.{utf8}
 use Rattle.rules.specs.Result.{Result, refused, accepted, _>>_, need, sound}
@@ -131,7 +132,7 @@ module _ (t : ℕ) (v : List ℕ) where
     unfolding content sound need _>>_
     size-faulty e l h = rw e (simp (← (number-of-one v l), h))
 
-    pub no-content : 32 ≤ t → (t ≡ 33 → ⊥) → (t ≡ 35 → ⊥) → accepted tt ≡ sound (content t v) p
+    pub no-content : first-style ≤ t → (t ≡ 33 → ⊥) → (t ≡ 35 → ⊥) → accepted tt ≡ sound (content t v) p
     unfolding content sound need _>>_
     no-content l e f =
         simp (

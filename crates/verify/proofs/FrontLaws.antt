@@ -8,6 +8,7 @@ use lib.Dec.{leb}
 use lib.ListN.{length, getD, take, drop, length-take, length-drop}
 use lib.Seq.{drop-cons, drop-drop}
 use borrow.Author.Tests.{leb-true, leb-false, le-leb, lt-leb}
+use Rattle.rules.specs.Limits.{most-blocks}
 use Rattle.rules.specs.Bytes.{number}
 use Rattle.rules.specs.declared.Refusal.{Refusal}
 use Rattle.rules.specs.Result.{Result, refused, accepted, _>>=_, _>>_, need}
@@ -76,7 +77,7 @@ the-field s at = record { tag = getD s at 0; value = value-at s at; rest = drop 
 
 -- the tests after the header
 abbrev After : List ℕ → (at d p : ℕ) → Result (Field ℕ)
-After s at d p = need (right-length (getD s at 0) (length-at s at)) 5 p >> (need (not (is-block (getD s at 0) && leb 32 d)) 6 p >> accepted (the-field s at))
+After s at d p = need (right-length (getD s at 0) (length-at s at)) 5 p >> (need (not (is-block (getD s at 0) && leb most-blocks d)) 6 p >> accepted (the-field s at))
 
 -- by whether the length fits, three bytes being there
 three-answer : (y a : Bool) (p : ℕ) (x : Result (Field ℕ)) → (need a 4 p >> (need y 3 p >> x)) ≡ (front-answer true y a p >> x)
@@ -130,7 +131,7 @@ after-value false true p f g = refl
 after-value false false p f g = refl
 
 module _ {s : List ℕ} {at : ℕ} {a : Bool} {p : ℕ} {r : Checked} (F : Fronted s at a p r) where
-  pub header-passed : (h : Holder) (before : ℕ) → a ≡ allowed h before (getD s at 0) → r ≡ Sound → Passed h before s at
+  header-passed : (h : Holder) (before : ℕ) → a ≡ allowed h before (getD s at 0) → r ≡ Sound → Passed h before s at
   unfolding checked
   header-passed h before e z =
       let (x, y, w) = sound-answer _ _ _ p (sym (F .is) ∙ ap checked z) in
@@ -178,14 +179,22 @@ module _ {h : Holder} {before : ℕ} {s : List ℕ} {at : ℕ} (P : Passed h bef
   unfolding field-result value-result
   field-value =
       ap (λ (m : Result (Field ℕ)). m >>= λ f. content-result (f .tag) d p (f .value)) front-after
-      ∙ after-value (right-length (getD s at 0) (length-at s at)) (not (is-block (getD s at 0) && leb 32 d)) p (the-field s at) (λ f. content-result (f .tag) d p (f .value))
+      ∙ after-value (right-length (getD s at 0) (length-at s at)) (not (is-block (getD s at 0) && leb most-blocks d)) p (the-field s at) (λ f. content-result (f .tag) d p (f .value))
       ∙ rw (value-length s at (P .fits))
 
   -- the field is as its value is
-  pub by-value : {e : ℕ} {r : Checked} → e ≡ at + 3 + length-at s at → ValueSaid (getD s at 0) d p (take (e - (at + 3)) (drop (at + 3) s)) r → FieldSaid h d before p s at r
+  by-value : {e : ℕ} {r : Checked} → e ≡ at + 3 + length-at s at → ValueSaid (getD s at 0) d p (take (e - (at + 3)) (drop (at + 3) s)) r → FieldSaid h d before p s at r
   by-value {e} {r} q C =
       let n : e - (at + 3) ≡ length-at s at = omega arith in
       record { is = (rw n at (C .is)) ∙ sym (ap done field-value) }
+
+-- behind a header that passed: its tag is allowed, and the field is as its value is
+module _ {s : List ℕ} {at : ℕ} {a : Bool} {p : ℕ} {f : Checked} (F : Fronted s at a p f) (z : f ≡ Sound) {h : Holder} {before : ℕ} (t : a ≡ allowed h before (getD s at 0)) where
+  pub tag-allowed : Allowed h before (getD s at 0)
+  tag-allowed = header-passed F h before t z .right
+
+  pub sound-value : {e d : ℕ} {r : Checked} → e ≡ at + 3 + length-at s at → ValueSaid (getD s at 0) d p (take (e - (at + 3)) (drop (at + 3) s)) r → FieldSaid h d before p s at r
+  sound-value q W = by-value (header-passed F h before t z) _ _ q W
 
 -- a field that the rules accept is this one
 then-inv : {B : Type 0} (m : Result (Unit {0})) (x : Result B) (b : B) → (m >> x) ≡ accepted b → (m ≡ accepted tt) × (x ≡ accepted b)

@@ -5,6 +5,7 @@ use Prim.Native.Nat.{ℕ, _≤_, _<_}
 use native.Mathlib.Omega.{arith}
 use lib.Dec.{leb, ltb, eqb}
 use borrow.Author.Tests.{le-leb, lt-leb, ne-eqb, eq-eqb, leb-true, eqb-true, eqb-false}
+use Rattle.rules.specs.Limits.{first-style, last-style}
 use Rattle.rules.specs.Bytes.{if_then_else_, within}
 use Rattle.rules.specs.Walk.{Holder, allowed, right-length, is-block, in-fragment, in-block, in-text, in-anchor, in-styles}
 use Rattle.rules.proofs.Chains.{no-path}
@@ -65,25 +66,25 @@ module _ (t : ℕ) where
     unfolding allowed
     anchor-19 a e = simp (eq-eqb before 0 a, ne-eqb t 18 e)
 
-    pub styles-low : t < 32 → false ≡ allowed in-styles before t
+    pub styles-low : t < first-style → false ≡ allowed in-styles before t
     unfolding allowed
-    styles-low h = simp (lt-leb 32 t h)
+    styles-low h = simp (lt-leb first-style t h)
 
-    pub styles-high : 38 < t → false ≡ allowed in-styles before t
+    pub styles-high : last-style < t → false ≡ allowed in-styles before t
     unfolding allowed
-    styles-high h = simp (le-leb 32 t (omega arith), lt-leb t 38 h)
+    styles-high h = simp (le-leb first-style t (omega arith), lt-leb t last-style h)
 
-    pub styles-rise : 32 ≤ t → t ≤ 38 → ltb before t ≡ allowed in-styles before t
+    pub styles-rise : first-style ≤ t → t ≤ last-style → ltb before t ≡ allowed in-styles before t
     unfolding allowed
-    styles-rise h g = simp (le-leb 32 t h, le-leb t 38 g)
+    styles-rise h g = simp (le-leb first-style t h, le-leb t last-style g)
 
   -- fixed lengths of a style's fields
   module _ (n : ℕ) where
-    pub length-flag : 35 < t → t ≤ 38 → eqb n 0 ≡ right-length t n
+    pub length-flag : 35 < t → t ≤ last-style → eqb n 0 ≡ right-length t n
     unfolding right-length
-    length-flag h g = simp (ne-eqb t 5 (λ (z : t ≡ 5). omega arith), ne-eqb t 6 (λ (z : t ≡ 6). omega arith), le-leb 36 t h, le-leb t 38 g)
+    length-flag h g = simp (ne-eqb t 5 (λ (z : t ≡ 5). omega arith), ne-eqb t 6 (λ (z : t ≡ 6). omega arith), le-leb 36 t h, le-leb t last-style g)
 
-    pub length-one : (t ≡ 32 → ⊥) → (t ≡ 33 → ⊥) → 32 ≤ t → t ≤ 35 → eqb n 1 ≡ right-length t n
+    pub length-one : (t ≡ 32 → ⊥) → (t ≡ 33 → ⊥) → first-style ≤ t → t ≤ 35 → eqb n 1 ≡ right-length t n
     unfolding right-length
     length-one a b h g =
         simp (ne-eqb t 5 (λ (z : t ≡ 5). omega arith), ne-eqb t 6 (λ (z : t ≡ 6). omega arith), lt-leb 36 t (omega arith), ne-eqb t 32 a, ne-eqb t 33 b)
@@ -121,12 +122,12 @@ module _ {before t : ℕ} where
   unfolding allowed
   block-tag A = eqb-true t 8 (A .yes)
 
-  pub styles-tags : Allowed in-styles before t → (32 ≤ t) × (t ≤ 38)
+  pub styles-tags : Allowed in-styles before t → (first-style ≤ t) × (t ≤ last-style)
   unfolding allowed
   styles-tags A =
-      let (w, r) = both-hold (within 32 38 t) (ltb before t) (A .yes) in
-      let (a, b) = both-hold (leb 32 t) (leb t 38) w in
-      (leb-true 32 t a, leb-true t 38 b)
+      let (w, r) = both-hold (within first-style last-style t) (ltb before t) (A .yes) in
+      let (a, b) = both-hold (leb first-style t) (leb t last-style) w in
+      (leb-true first-style t a, leb-true t last-style b)
 
   pub text-tag : Allowed in-text before t → (t ≡ 16 → ⊥) → t ≡ 17
   text-tag A n = by-test (eqb t 17) (eqb-true t 17) (λ q. never (sym (A .yes) ∙ sym (text-other t before n (eqb-false t 17 q))))

@@ -8,6 +8,7 @@ use native.Mathlib.Omega.{arith}
 use lib.Dec.{leb, eqb}
 use lib.ListN.{length}
 use borrow.Author.Tests.{ne-eqb, eq-eqb, eqb-true, eqb-false, le-leb, lt-leb}
+use Rattle.rules.specs.Limits.{most-blocks, first-style}
 use Rattle.rules.specs.Result.{Result, refused, _>>_, need, sound}
 use Rattle.rules.specs.Walk.{Holder, in-fragment, in-block, in-text, in-anchor, in-styles, of-fields, valued, walk, holds, text-content, anchor-content, content, complete, tags, right-length, is-block}
 use Rattle.rules.specs.Good.{depth-in}
@@ -42,7 +43,7 @@ module _ (d p : ℕ) (v : List ℕ) where
     unfolding value-result need _>>_
     bytes-at t l b o e = record { is = rw (l, b) (e ∙ sym (bytes-content t o)) }
 
-    fields-at : (t : ℕ) (h : Holder) → right-length t (length v) ≡ true → (is-block t && leb 32 d) ≡ false → holds t ≡ some h → FieldsSaid h (depth-in t d) (p + 3) p v r → ValueSaid t d p v r
+    fields-at : (t : ℕ) (h : Holder) → right-length t (length v) ≡ true → (is-block t && leb most-blocks d) ≡ false → holds t ≡ some h → FieldsSaid h (depth-in t d) (p + 3) p v r → ValueSaid t d p v r
     unfolding value-result need _>>_ content-result valued fields-result
     fields-at t h l b o F = record { is = F .is ∙ rw (l, b, o) (sym (done-each (walk content itself (length v) h (depth-in t d) 0 (p + 3) v) (λ i. sound (complete h (tags i)) p) of-fields)) }
 
@@ -82,16 +83,16 @@ module _ (d p : ℕ) (v : List ℕ) {t : ℕ} {r : Checked} where
   unfolding right-length is-block holds
   piece-value A F = rw (block-tag A) (fields-at d p v 8 in-fragment refl refl refl (fragment-anywhere F))
 
-  pub block-value : is-block t ≡ true → d < 32 → FieldsSaid in-block (d + 1) (p + 3) 0 v r → ValueSaid t d p v r
+  pub block-value : is-block t ≡ true → d < most-blocks → FieldsSaid in-block (d + 1) (p + 3) 0 v r → ValueSaid t d p v r
   unfolding right-length is-block holds
   block-value b h F =
-      let n : leb 32 d ≡ false = lt-leb 32 d h in
+      let n : leb most-blocks d ≡ false = lt-leb most-blocks d h in
       is-a-block (λ t. ValueSaid t d p v r) t b (fields-at d p v 3 in-block refl n refl (block-anywhere F)) (fields-at d p v 4 in-block refl n refl (block-anywhere F))
 
-  pub deep-value : is-block t ≡ true → 32 ≤ d → checked r ≡ refused 6 p → ValueSaid t d p v r
+  pub deep-value : is-block t ≡ true → most-blocks ≤ d → checked r ≡ refused 6 p → ValueSaid t d p v r
   unfolding value-result right-length is-block need _>>_ done
   deep-value b h e =
-      let n : leb 32 d ≡ true = le-leb 32 d h in
+      let n : leb most-blocks d ≡ true = le-leb most-blocks d h in
       is-a-block (λ t. ValueSaid t d p v r) t b (record { is = rw n e }) (record { is = rw n e })
 
   pub note-value : t ≡ 7 → checked r ≡ sound (text-content v) p → ValueSaid t d p v r
@@ -116,7 +117,7 @@ module _ (d p : ℕ) (v : List ℕ) {t : ℕ} {r : Checked} where
   unfolding style-verdict is-block holds
   style-value A e =
       let (lo, hi) = styles-tags A in
-      let other : (k : ℕ) → k < 32 → eqb t k ≡ false = λ k l. ne-eqb t k (λ (z : t ≡ k). omega arith) in
+      let other : (k : ℕ) → k < first-style → eqb t k ≡ false = λ k l. ne-eqb t k (λ (z : t ≡ k). omega arith) in
       let b : is-block t ≡ false = simp (other 3 (omega arith), other 4 (omega arith)) in
       let o : holds t ≡ none = simp (other 1 (omega arith), other 2 (omega arith), other 3 (omega arith), other 4 (omega arith), other 8 (omega arith), other 16 (omega arith)) in
       record { is = e ∙ sym (ap done (shallow d p v t b) ∙ after-need _ 5 p _ _ (bytes-content d p v t o)) }

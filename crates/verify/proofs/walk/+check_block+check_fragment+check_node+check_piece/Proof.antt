@@ -7,9 +7,9 @@ use borrow.Author.Needs.{needs}
 use borrow.Fn.PlainCycle.{Measures}
 use Rattle.rules.specs.Walk.{in-fragment, in-block}
 use Rattle.verify.proofs.Cycles.{at, below}
-use Rattle.verify.proofs.FrontLaws.{sound-three, sound-end, sound-less, sound-room}
+use Rattle.verify.proofs.FrontLaws.{header-stops, sound-three, sound-end, sound-less, sound-room, sound-value}
 use Rattle.verify.proofs.LoopLaws.{Reached, reached-none, reached-stops, reached-three, reached-less, reached-on, reached-end, field-stands, free-nodes, free-pieces}
-use Rattle.verify.proofs.NodeLaws.{node-stops, leaf-here, deep-node, block-node, leaf-node, piece-stops, whole-piece}
+use Rattle.verify.proofs.NodeLaws.{leaf-here, deep-node, block-node, piece-stops, whole-piece}
 use Rattle.verify.proofs.walk.check_block.Reads as check-block
 use Rattle.verify.proofs.walk.check_block.Kinds as check-block-kinds
 use Rattle.verify.proofs.walk.+check_block+check_fragment+check_node+check_piece.Lts-check_block as check-block-lts
@@ -60,9 +60,9 @@ pub +check-block+check-fragment+check-node+check-piece-spec : {M : Type 1} → s
     (λ t. check-node-lts.spec
     (in-fragment-reads.Asked, in-fragment-reads.Learnt, check-front.Asked, check-front.Learnt, field-end.Asked, field-end.Learnt, is-block.Asked, is-block.Learnt, check-leaf.Asked, check-leaf.Learnt, below check-block-kinds.ps μ-block check-block.Pre t, check-block.Post)
     (at check-node-kinds.ps μ-node check-node.Pre t) check-node.Post
-    (λ c. search needs) (λ c κs. search needs) (λ c κs. search needs) (λ c. search needs) (λ c. search needs) (λ c. search node-stops)
+    (λ c. search needs) (λ c κs. search needs) (λ c κs. search needs) (λ c. search needs) (λ c. search needs) (λ c. search header-stops)
     (λ c. search needs) (λ c κs. search sound-three) (λ c. search needs) (λ c. search needs) (λ c. search sound-end) (λ c. search needs) (λ c κs. search needs)
-    (λ c κs. search leaf-here) (λ c. search (leaf-node, c .check-leaf .ensures)) (λ c. search deep-node) (λ c. search needs)
+    (λ c κs. search leaf-here) (λ c. search (sound-value, c .check-leaf .ensures)) (λ c. search deep-node) (λ c. search needs)
     (λ c κs. (search sound-less, search sound-room)) (λ c. search block-node))
     λ t. check-piece-lts.spec (check-front.Asked, check-front.Learnt, field-end.Asked, field-end.Learnt, below check-fragment-kinds.ps μ-fragment check-fragment.Pre t, check-fragment.Post)
     (at check-piece-kinds.ps μ-piece check-piece.Pre t) check-piece.Post
