@@ -9,7 +9,9 @@ use rules::Answer;
 use rules::Refusal;
 use telling::end_line;
 use telling::tell_refusal;
+ghost use mathlib.Core.Path.{_≡_};
 ghost use Rattle.printing.specs.Shown.{Shown};
+ghost use Rattle.printing.specs.Asked.{with-page, laid-at, asked};
 
 // What is printed of the file.
 pub enum Wanted {
@@ -34,7 +36,9 @@ fn print_answer(page: &[u8], a: Answer)
     }
 }
 
-fn print_page(wanted: Wanted, file: &[u8], page: &mut [u8]) {
+fn print_page(wanted: Wanted, file: &[u8], page: &mut [u8])
+    ensures { λ _. ⌜ now (page .exit) ≡ with-page wanted (now (file .entry)) (now (page .entry)) ⌝ }
+{
     match wanted {
         Wanted::PlainPage => {
             let a = plain_page(file, page);
@@ -48,14 +52,19 @@ fn print_page(wanted: Wanted, file: &[u8], page: &mut [u8]) {
 }
 
 // The file laid out at the width, then its page. Places count from the file's start.
-fn lay_out_and_print(wanted: Wanted, file: &mut [u8], width: usize, page: &mut [u8]) {
+fn lay_out_and_print(wanted: Wanted, file: &mut [u8], width: usize, page: &mut [u8])
+    ensures { λ _. ⌜ (now (file .exit), now (page .exit)) ≡ laid-at wanted width (now (file .entry)) (now (page .entry)) ⌝ }
+{
     match layout_file(file, width) {
         Answer::Done(n) => print_page(wanted, file, page),
         Answer::Refused(r) => refuse(r),
     }
 }
 
-pub fn print_asked(wanted: Wanted, input: &mut [u8], page: &mut [u8]) {
+// What is left in the input and in the page is told; what goes to standard output is the page's bytes, or the refusal.
+pub fn print_asked(wanted: Wanted, input: &mut [u8], page: &mut [u8])
+    ensures { λ _. ⌜ (now (input .exit), now (page .exit)) ≡ asked wanted (now (input .entry)) (now (page .entry)) ⌝ }
+{
     if input.len() < 2 {
         refuse(Refusal::Cut(0));
         return;
