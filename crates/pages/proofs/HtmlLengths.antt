@@ -70,13 +70,7 @@ open-most : (definition : Bool) (a : List ℕ) → html-cost (marked (open-ancho
 unfolding html-cost item-html mark-html makes ascii
 open-most definition a =
     let link : List (Out ℕ) = makes (ascii " href=\"#") ++ (copies a ++ makes (ascii "\">")) in
-    omega (
-      arith,
-      length-append (id-attribute definition a) link,
-      length-append (copies a) (makes (ascii "\">")),
-      id-most definition a,
-      length-copies a,
-    )
+    omega (arith, length-append (id-attribute definition a) link, length-append (copies a) (makes (ascii "\">")), id-most definition a, length-copies a)
 
 close-most : html-cost (marked close-anchor) ≤ 144
 unfolding html-cost item-html mark-html makes ascii
@@ -92,21 +86,9 @@ items-most =
 -- ---- the pages
 
 -- the fixed bytes
-opening-most : length opening ≤ 4_096
+fixed-most : (length opening ≤ 4_096) × (length closing ≤ 4_096) × (length before-body ≤ 4_096) × (length after-body ≤ 4_096)
 unfolding all-open
-opening-most = leb→le _ _ tt
-
-closing-most : length closing ≤ 4_096
-unfolding all-open
-closing-most = leb→le _ _ tt
-
-before-most : length before-body ≤ 4_096
-unfolding all-open
-before-most = leb→le _ _ tt
-
-after-most : length after-body ≤ 4_096
-unfolding all-open
-after-most = leb→le _ _ tt
+fixed-most = (leb→le _ _ tt, leb→le _ _ tt, leb→le _ _ tt, leb→le _ _ tt)
 
 body-most : (t : Frag ℕ) → GoodTree t → Bytes (encode t) → length (body escape newline t) ≤ 30_000_008_192
 unfolding body
@@ -118,8 +100,8 @@ body-most t G z =
       length-append (items-html escape is) (makes closing),
       length-makes opening,
       length-makes closing,
-      opening-most,
-      closing-most,
+      fixed-most .0,
+      fixed-most .1,
       items-length is,
       items-most t G z,
     )
@@ -138,7 +120,7 @@ document-short t G z =
       length-append (body escape newline t) (makes after-body),
       length-makes before-body,
       length-makes after-body,
-      before-most,
-      after-most,
+      fixed-most .2,
+      fixed-most .3,
       body-most t G z,
     )

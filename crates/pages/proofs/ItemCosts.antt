@@ -98,8 +98,7 @@ module _ (cost : Item ℕ → ℕ) (made-1 : (b : ℕ) → cost (char (made b)) 
   spacing-cost level bare (indented-by k) = omega (arith, levels-cost k (target level bare k), target-le level bare k)
   spacing-cost level bare has-text = omega arith
 
-  item-cost : (m : Machine) (bare : Bool) (is : List (Item ℕ)) (f : Line → Line)
-      → cost-all cost (item m bare is f .0) ≤ 2 + 2 * m .level + cost-all cost is
+  item-cost : (m : Machine) (bare : Bool) (is : List (Item ℕ)) (f : Line → Line) → cost-all cost (item m bare is f .0) ≤ 2 + 2 * m .level + cost-all cost is
   unfolding item
   item-cost m bare is f =
       let w : List (Item ℕ) × Line = release (m .waiting) (m .line) in
@@ -116,8 +115,7 @@ module _ (cost : Item ℕ → ℕ) (made-1 : (b : ℕ) → cost (char (made b)) 
   step-cost m (part []) = omega arith
   step-cost m (part (x ∷ s)) = item-cost m false (map (λ y. char (copied y)) (x ∷ s)) (λ l. has-text)
   step-cost m (mark k) = omega (arith, item-cost m false (marked k ∷ []) (λ l. l))
-  step-cost m (empty-anchor definition a) =
-      omega (arith, item-cost m true (marked (open-anchor definition a) ∷ marked close-anchor ∷ []) (λ l. l))
+  step-cost m (empty-anchor definition a) = omega (arith, item-cost m true (marked (open-anchor definition a) ∷ marked close-anchor ∷ []) (λ l. l))
   step-cost m new-line = omega (arith, making-cost (10 ∷ []))
   step-cost m (break b) = omega (arith, broken-cost (ignored (m .level) (m .line)) m b)
   step-cost m indent = omega arith
@@ -128,9 +126,4 @@ module _ (cost : Item ℕ → ℕ) (made-1 : (b : ℕ) → cost (char (made b)) 
   unfolding run cost-all own-all
   run-cost m [] l = omega arith
   run-cost m (o ∷ os) l =
-      omega (
-        arith,
-        cost-append cost (step m o .0) (run (step m o .1) os),
-        step-cost m o,
-        run-cost (step m o .1) os (omega (arith, step-level m o)),
-      )
+      omega (arith, cost-append cost (step m o .0) (run (step m o .1) os), step-cost m o, run-cost (step m o .1) os (omega (arith, step-level m o)))

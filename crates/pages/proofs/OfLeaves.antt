@@ -40,8 +40,7 @@ run-styled j v l m e =
     rw (field-here [] 16 (encode-fields j) r l, part-here [] 16 (encode-fields j) r, p, field-here s 17 v [] m, part-here s 17 v [], e)
 
 -- so a good run
-run-good : (d : ℕ) (r : Run ℕ) → Good in-text d 0 (run-fields (r .style) (r .chars))
-    → run-in (encode-fields (run-fields (r .style) (r .chars))) ≡ run-ops newline r
+run-good : (d : ℕ) (r : Run ℕ) → Good in-text d 0 (run-fields (r .style) (r .chars)) → run-in (encode-fields (run-fields (r .style) (r .chars))) ≡ run-ops newline r
 unfolding run-ops run-fields encode-fields holds styled
 run-good d r G = go (r .style) (r .chars) G
   where
@@ -56,8 +55,7 @@ run-field : (v : List ℕ) → run-field-in (field 1 v) ≡ run-in v
 unfolding run-field-in field
 run-field v = rw (has-header 1 v)
 
-runs-good : (rs : List (Run ℕ)) (d before : ℕ) → Good in-anchor d before (runs-fields rs)
-    → Gives run-field-in (encode-fields (runs-fields rs)) (runs-ops newline rs)
+runs-good : (rs : List (Run ℕ)) (d before : ℕ) → Good in-anchor d before (runs-fields rs) → Gives run-field-in (encode-fields (runs-fields rs)) (runs-ops newline rs)
 unfolding runs-fields encode-fields runs-ops holds
 runs-good [] d before G = gives-nil run-field-in
 runs-good (r ∷ rs) d before G =
@@ -80,8 +78,7 @@ name-first definition a r l =
     let p : 3 + length a ≡ length (field t a) = sym (length-field t a) in
     rw (field-here [] t a r l, part-here [] t a r, definition-tag definition, p)
 
-anchor-good : (directly : Bool) (d : ℕ) (definition : Bool) (a : List ℕ) (rs : List (Run ℕ))
-    → Good in-anchor d 0 (bytes (anchor-tag definition) a (runs-fields rs))
+anchor-good : (directly : Bool) (d : ℕ) (definition : Bool) (a : List ℕ) (rs : List (Run ℕ)) → Good in-anchor d 0 (bytes (anchor-tag definition) a (runs-fields rs))
     → anchor-in (field (anchor-tag definition) a ++ encode-fields (runs-fields rs)) ≡ leaf-ops newline directly (anchor definition a rs)
 unfolding named-in leaf-ops runs-fields encode-fields
 anchor-good directly d definition a [] G =

@@ -46,8 +46,7 @@ module _ (Fine : Fields ℕ → Type 0)
     good : Good h d before i
     fine : Fine i
 
-  sound-in : {h : Holder} {d before t : ℕ} {i r : Fields ℕ} (h′ : Holder) → holds t ≡ some h′ → Sound h d before (inside t i r)
-      → Sound h′ (depth-in t d) 0 i
+  sound-in : {h : Holder} {d before t : ℕ} {i r : Fields ℕ} (h′ : Holder) → holds t ≡ some h′ → Sound h d before (inside t i r) → Sound h′ (depth-in t d) 0 i
   sound-in {d = d} {t = t} {i} {r} h′ e S = record { good = inner-good t d i h′ e (S .good .1); fine = fine-inside t i r (S .fine) .0 }
 
   sound-behind : {h : Holder} {d before t : ℕ} {i r : Fields ℕ} → Sound h d before (inside t i r) → Sound h d t r
@@ -75,8 +74,7 @@ module _ (Fine : Fields ℕ → Type 0)
   within-nil n = record { many = omega arith; dear = omega arith }
 
   within-append : {os us : Ops} {k n : ℕ} → Within os k → Within us n → Within (os ++ us) (k + n)
-  within-append {os} {us} x y =
-      record { many = omega (arith, length-append os us, x .many, y .many); dear = omega (arith, own-append cost os us, x .dear, y .dear) }
+  within-append {os} {us} x y = record { many = omega (arith, length-append os us, x .many, y .many); dear = omega (arith, own-append cost os us, x .dear, y .dear) }
 
   within-more : {os : Ops} {k n : ℕ} → Within os k → k ≤ n → Within os n
   within-more x l = record { many = omega (arith, x .many); dear = omega (arith, x .dear) }

@@ -33,14 +33,10 @@ newline-said zero z o = absurd (z refl)
 newline-said (suc zero) z o = absurd (o refl)
 newline-said (suc (suc m)) z o = refl
 
-html-numbered : (m : ℕ) → (m ≡ 0 → ⊥) → F.the-variants.Html ≡ form-numbered m
+pub html-said : (m : ℕ) → (m ≡ 0 → ⊥) → F.the-variants.Html ≡ form-numbered m
 unfolding form-numbered
-html-numbered zero z = absurd (z refl)
-html-numbered (suc m) z = refl
-
-pub html-said : (n : ℕ) → ((n / 65536) % 2 ≡ 0 → ⊥) → F.the-variants.Html ≡ form-in n
-unfolding form-in
-html-said n z = html-numbered ((n / 65536) % 2) z
+html-said zero z = absurd (z refl)
+html-said (suc m) z = refl
 
 -- ---- put together
 

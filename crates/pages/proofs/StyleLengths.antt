@@ -135,8 +135,7 @@ opacity-most bits e =
 colour-most : (c o : Option (List ℕ)) → IfThere 32 c → IfThere 33 o → length (colour-css c (Option·map number o)) ≤ 37
 unfolding colour-css ascii right-length content
 colour-most none o C O = omega arith
-colour-most (some v) none C O =
-    omega (arith, length-join (ascii "color:#" ∷ separated hex [] v ∷ ascii ";" ∷ []), three-hex v (eqb-true (length v) 3 (C .long)))
+colour-most (some v) none C O = omega (arith, length-join (ascii "color:#" ∷ separated hex [] v ∷ ascii ";" ∷ []), three-hex v (eqb-true (length v) 3 (C .long)))
 colour-most (some v) (some w) C O =
     omega (
       arith,
@@ -177,8 +176,7 @@ signed-size b h e = go (leb b 117) (ltb b 128) refl refl e
 em-most : (z : ℤ) (script : Bool) → AcceptedSize z → length (size-css (some z) script) ≤ 55
 unfolding size-css ascii
 em-most z true a = omega (arith, length-join (ascii "font-size:" ∷ em-text z ∷ ascii "em;" ∷ [] ∷ []), em-text-length z a)
-em-most z false a =
-    omega (arith, length-join (ascii "font-size:" ∷ em-text z ∷ ascii "em;" ∷ ascii "vertical-align:middle;" ∷ []), em-text-length z a)
+em-most z false a = omega (arith, length-join (ascii "font-size:" ∷ em-text z ∷ ascii "em;" ∷ ascii "vertical-align:middle;" ∷ []), em-text-length z a)
 
 size-most : (o : Option (List ℕ)) (script : Bool) → IfThere 35 o → length (size-css (or-script (Option·map signed-byte o) script) script) ≤ 55
 unfolding right-length content signed-byte or-script size-css

@@ -42,49 +42,6 @@ pub whole-page : (k : Kind) (s : List ℕ) {p p′ : Pen} {page page₁ page₂ 
 unfolding page-in
 whole-page k s h f e r g = writing.then h (writing.then (rw (f, e) at (r .ran .written)) g)
 
--- ---- any kind of page: the text of a tree, and the same by the bytes of its file
-
-module _ (text : Frag ℕ → List ℕ) (text-in : List ℕ → List ℕ) (same : (t : Frag ℕ) → GoodTree t → text-in (encode t) ≡ text t)
-    (short : (t : Frag ℕ) → GoodTree t → Bytes (encode t) → length (text t) ≤ last) (s page : List ℕ) where
-  page-refused : (a : Answer) {r : Refusal} → a ≡ Refused r → said a ≡ check-answer s → (said a, page) ≡ left-page (tree s >>= (λ t. accepted (text t))) page
-  unfolding left-page _>>=_
-  page-refused a q e =
-      let R : RefusedSo s (said a) = refused-so s a q e in
-      ap (λ r. (r, page)) (R .says) ∙ sym (ap (λ x. left-page (x >>= (λ t. accepted (text t))) page) (R .no-tree))
-
-  -- an accepted file's text, by its bytes, and its length
-  module _ (b : Bytes s) (a : Answer) {n : ℕ} (q : a ≡ Done n) (e : said a ≡ check-answer s) {needed : ℕ} {x : List ℕ} (m : Written [] 0 (text-in s) x needed) where
-    accepted-text : (A : AcceptedAs s) → text-in s ≡ text (A .root)
-    accepted-text A = ap text-in (sym (A .read .encodes)) ∙ same (A .root) (A .read .good)
-
-    accepted-outcome : (A : AcceptedAs s)
-        → left-page (tree s >>= (λ t. accepted (text t))) page ≡ written (leb (length (text-in s)) (length page)) (text-in s) page
-    unfolding left-page _>>=_
-    accepted-outcome A = rw (A .its-tree, accepted-text A)
-
-    text-short : (A : AcceptedAs s) → length (text-in s) ≤ last
-    text-short A = rw (accepted-text A) (short (A .root) (A .read .good) (subst Bytes (sym (A .read .encodes)) b))
-
-    -- measuring lends no page, and leaves none in front of the page itself
-    pub page-too-short : length (x ++ page) < needed → (refused 10 needed, x ++ page) ≡ left-page (tree s >>= (λ t. accepted (text t))) page
-    unfolding written
-    page-too-short h =
-        let A : AcceptedAs s = accepted-as s a b q e in
-        let l : needed ≡ length (text-in s) = how-long m (text-short A) in
-        let none : x ++ page ≡ page = ap (λ (x : List ℕ). x ++ page) (no-page m) in
-        let h′ : length page < length (text-in s) = omega (arith, l, ap length none) in
-        rw (accepted-outcome A, lt-leb (length (text-in s)) (length page) h′, l, none) refl
-
-    pub page-written : {r : ℕ} {page′ : List ℕ} → needed ≤ length (x ++ page) → Written (x ++ page) 0 (text-in s) page′ r
-        → (accepted r, page′) ≡ left-page (tree s >>= (λ t. accepted (text t))) page
-    unfolding written
-    page-written h w =
-        let A : AcceptedAs s = accepted-as s a b q e in
-        let l : needed ≡ length (text-in s) = how-long m (text-short A) in
-        let none : x ++ page ≡ page = ap (λ (x : List ℕ). x ++ page) (no-page m) in
-        let h′ : length (text-in s) ≤ length page = omega (arith, l, ap length none) in
-        rw (accepted-outcome A, le-leb (length (text-in s)) (length page) h′, how-long w (text-short A), fits (rw none at w) (text-short A) h′) refl
-
 -- ---- the three kinds
 
 makes-items : (is : List (Item ℕ)) (a b : List ℕ) → fill itself (makes a ++ (items-html escape is ++ makes b)) ≡ a ++ (fill itself (items-html escape is) ++ b)
@@ -123,13 +80,43 @@ outcome-of K.the-variants.Plain s page = refl
 outcome-of K.the-variants.Body s page = refl
 outcome-of K.the-variants.Document s page = refl
 
+-- ---- what each kind answers: by the text of a tree, and by the bytes of its file
+
 module _ (k : Kind) (s page : List ℕ) where
-  pub kind-refused : (a : Answer) {r : Refusal} → a ≡ Refused r → said a ≡ check-answer s → (said a, page) ≡ page-outcome k s page
-  kind-refused a q e = page-refused (page-of k) (page-in k) (page-by-bytes k) (page-last k) s page a q e ∙ outcome-of k s page
+  pub page-refused : (a : Answer) {r : Refusal} → a ≡ Refused r → said a ≡ check-answer s → (said a, page) ≡ page-outcome k s page
+  unfolding left-page _>>=_
+  page-refused a q e =
+      let R : RefusedSo s (said a) = refused-so s a q e in
+      ap (λ r. (r, page)) (R .says) ∙ sym (ap (λ x. left-page (x >>= (λ t. accepted (page-of k t))) page) (R .no-tree)) ∙ outcome-of k s page
 
+  -- an accepted file's text, by its bytes, and its length
   module _ (b : Bytes s) (a : Answer) {n : ℕ} (q : a ≡ Done n) (e : said a ≡ check-answer s) {needed : ℕ} {x : List ℕ} (m : Written [] 0 (page-in k s) x needed) where
-    pub kind-too-short : length (x ++ page) < needed → (refused 10 needed, x ++ page) ≡ page-outcome k s page
-    kind-too-short h = page-too-short (page-of k) (page-in k) (page-by-bytes k) (page-last k) s page b a q e m h ∙ outcome-of k s page
+    accepted-text : (A : AcceptedAs s) → page-in k s ≡ page-of k (A .root)
+    accepted-text A = ap (page-in k) (sym (A .read .encodes)) ∙ page-by-bytes k (A .root) (A .read .good)
 
-    pub kind-written : {r : ℕ} {page′ : List ℕ} → needed ≤ length (x ++ page) → Written (x ++ page) 0 (page-in k s) page′ r → (accepted r, page′) ≡ page-outcome k s page
-    kind-written h w = page-written (page-of k) (page-in k) (page-by-bytes k) (page-last k) s page b a q e m h w ∙ outcome-of k s page
+    accepted-outcome : (A : AcceptedAs s) → page-outcome k s page ≡ written (leb (length (page-in k s)) (length page)) (page-in k s) page
+    unfolding left-page _>>=_
+    accepted-outcome A = sym (outcome-of k s page) ∙ rw (A .its-tree, accepted-text A)
+
+    text-short : (A : AcceptedAs s) → length (page-in k s) ≤ last
+    text-short A = rw (accepted-text A) (page-last k (A .root) (A .read .good) (subst Bytes (sym (A .read .encodes)) b))
+
+    -- measuring lends no page, and leaves none in front of the page itself
+    pub page-too-short : length (x ++ page) < needed → (refused 10 needed, x ++ page) ≡ page-outcome k s page
+    unfolding written
+    page-too-short h =
+        let A : AcceptedAs s = accepted-as s a b q e in
+        let l : needed ≡ length (page-in k s) = how-long m (text-short A) in
+        let none : x ++ page ≡ page = ap (λ (x : List ℕ). x ++ page) (no-page m) in
+        let h′ : length page < length (page-in k s) = omega (arith, l, ap length none) in
+        rw (accepted-outcome A, lt-leb (length (page-in k s)) (length page) h′, l, none) refl
+
+    pub page-written : {r : ℕ} {page′ : List ℕ} → needed ≤ length (x ++ page) → Written (x ++ page) 0 (page-in k s) page′ r
+        → (accepted r, page′) ≡ page-outcome k s page
+    unfolding written
+    page-written h w =
+        let A : AcceptedAs s = accepted-as s a b q e in
+        let l : needed ≡ length (page-in k s) = how-long m (text-short A) in
+        let none : x ++ page ≡ page = ap (λ (x : List ℕ). x ++ page) (no-page m) in
+        let h′ : length (page-in k s) ≤ length page = omega (arith, l, ap length none) in
+        rw (accepted-outcome A, le-leb (length (page-in k s)) (length page) h′, how-long w (text-short A), fits (rw none at w) (text-short A) h′) refl

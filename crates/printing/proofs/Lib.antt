@@ -1,1 +1,2 @@
--- Printing.
+-- Printing: what is left in the input and in the page.
+pub mod Laws

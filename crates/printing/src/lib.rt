@@ -10,7 +10,9 @@ use rules::MOST_BYTES;
 use rules::Refusal;
 use telling::end_line;
 use telling::tell_refusal;
+ghost use mathlib.Core.Path.{_≡_};
 ghost use Rattle.printing.specs.Shown.{Shown};
+ghost use Rattle.printing.specs.Asked.{with-page, laid-at, asked};
 
 // Room for the input: two bytes of width, and one byte more than a file may have: a longer one is refused, and no more of it is read.
 pub const INPUT: usize = 2 + MOST_BYTES + 1;
@@ -38,7 +40,9 @@ fn print_answer(page: &[u8], a: Answer)
     }
 }
 
-fn print_page(wanted: Wanted, file: &[u8], page: &mut [u8]) {
+fn print_page(wanted: Wanted, file: &[u8], page: &mut [u8])
+    ensures { λ _. ⌜ now (page .exit) ≡ with-page wanted (now (file .entry)) (now (page .entry)) ⌝ }
+{
     match wanted {
         Wanted::PlainPage => {
             let a = plain_page(file, page);
@@ -52,14 +56,19 @@ fn print_page(wanted: Wanted, file: &[u8], page: &mut [u8]) {
 }
 
 // The file laid out at the width, then its page. Places count from the file's start.
-fn lay_out_and_print(wanted: Wanted, file: &mut [u8], width: usize, page: &mut [u8]) {
+fn lay_out_and_print(wanted: Wanted, file: &mut [u8], width: usize, page: &mut [u8])
+    ensures { λ _. ⌜ (now (file .exit), now (page .exit)) ≡ laid-at wanted width (now (file .entry)) (now (page .entry)) ⌝ }
+{
     match layout_file(file, width) {
         Answer::Done(n) => print_page(wanted, file, page),
         Answer::Refused(r) => refuse(r),
     }
 }
 
-pub fn print_asked(wanted: Wanted, input: &mut [u8], page: &mut [u8]) {
+// What is left in the input and in the page is told; what goes to standard output is the page's bytes, or the refusal.
+pub fn print_asked(wanted: Wanted, input: &mut [u8], page: &mut [u8])
+    ensures { λ _. ⌜ (now (input .exit), now (page .exit)) ≡ asked wanted (now (input .entry)) (now (page .entry)) ⌝ }
+{
     if input.len() < 2 {
         refuse(Refusal::Cut(0));
         return;

@@ -1,6 +1,11 @@
--- `printing::print_page` is safe: each entry's count is within its page.
+-- `printing::print_page` meets its contract: each entry's count is within its page, and its page is the one that is left.
+use mathlib.Core.Path.{ap}
+use mathlib.Core.List.{List}
+use Prim.Native.Nat.{ℕ}
+use Rattle.rules.specs.Result.{Result}
 use Rattle.hazomeny.proofs.Written.{plain-in-page, document-in-page}
 use borrow.Author.Needs.{needs}
+use Rattle.printing.specs.Asked.{with-page}
 use Rattle.printing.proofs.print_page.Statement.{statement}
 use Rattle.printing.proofs.print_page.Tie as tie
 
@@ -9,4 +14,7 @@ print-page-spec = tie.close (tie.spec (λ c. search needs) (λ c κs. search nee
     (λ c κs. record { in-page = λ n q. plain-in-page _ _ _ q (c .before .before .before .plain-page .ensures) }) (λ c. search needs)
     (λ c κs. search needs)
     (λ c κs. record { in-page = λ n q. document-in-page _ _ _ q (c .before .before .before .html-document .ensures) }) (λ c. search needs)
-    (λ c. search needs) (λ c. search needs) (λ c. search needs))
+    (λ c. unfold with-page in let p : tie.After-plain-page = search in let w : tie.After-enum-told = search in
+    rw (w .enum-told .given .1) (ap (λ (x : Result ℕ × List ℕ). x .1) (p .plain-page .ensures))) (λ c. search needs)
+    (λ c. unfold with-page in let p : tie.After-html-document = search in let w : tie.After-enum-told2 = search in
+    rw (w .enum-told2 .given .1) (ap (λ (x : Result ℕ × List ℕ). x .1) (p .html-document .ensures))))

@@ -7,6 +7,6 @@ use Rattle.styles.proofs.signed_byte.Statement.{statement}
 use Rattle.styles.proofs.signed_byte.Tie as tie
 
 pub signed-byte-spec : {M : Type 1} → statement M
-signed-byte-spec = tie.close (tie.spec (λ c. search needs) (λ c. unfold signed in rw (lt-ltb _ _ (c .if1 .taken))) (λ c. search needs)
+signed-byte-spec = tie.close (tie.spec (λ c. search needs) (λ c. unfold signed in rw (lt-ltb _ 128 (c .if1 .taken))) (λ c. search needs)
     (λ c. less-fits _ (c .before .fits .b .fits) (c .if1 .left))
     (λ c. stored-fits _ (c .before .fits .b .fits) (c .if1 .left)) (λ c. high-byte _ (c .before .fits .b .fits) (c .if1 .left)))

@@ -5,5 +5,5 @@ use Rattle.styles.proofs.with_script_width.Statement.{statement}
 use Rattle.styles.proofs.with_script_width.Tie as tie
 
 pub with-script-width-spec : {M : Type 1} → statement M
-with-script-width-spec = tie.close (tie.spec (λ c. unfold script-with script in rw (ne-eqb _ _ (c .if1 .taken))) (λ c. unfold script-with script in rw (eq-eqb _ _ (c .before .if1 .left), lt-ltb _ _ (c .if2 .taken)))
-    (λ c. unfold script-with script in rw (eq-eqb _ _ (c .before .if1 .left), le-ltb _ _ (c .if2 .left))))
+with-script-width-spec = tie.close (tie.spec (λ c. unfold script-with script in rw (ne-eqb _ 0 (c .if1 .taken))) (λ c. unfold script-with script in rw (eq-eqb _ 0 (c .before .if1 .left), lt-ltb _ 256 (c .if2 .taken)))
+    (λ c. unfold script-with script in rw (eq-eqb _ 0 (c .before .if1 .left), le-ltb _ 256 (c .if2 .left))))

@@ -5,4 +5,4 @@ use Rattle.pages.proofs.state.form_in.Statement.{statement}
 use Rattle.pages.proofs.state.form_in.Tie as tie
 
 pub form-in-spec : {M : Type 1} → statement M
-form-in-spec = tie.close (tie.spec (λ c. unfold form-in form-numbered in rw (c .if1 .taken)) (λ c. html-said _ (c .if1 .left)))
+form-in-spec = tie.close (tie.spec (λ c. unfold form-in form-numbered in rw (c .if1 .taken)) (λ c. unfold form-in in html-said _ (c .if1 .left)))
