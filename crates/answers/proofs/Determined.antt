@@ -1,6 +1,5 @@
 -- No second answer satisfies the contracts of this crate.
-use mathlib.Core.Path.{_≡_}
-use Prim.Native.Nat.{ℕ}
+use Rattle.rules.proofs.Basics.{_≡_, ℕ}
 use Rattle.rules.specs.declared.Refusal.{Refusal}
 use Rattle.rules.specs.Result.{refused, refusal}
 use Rattle.answers.specs.declared.Numbered as Code

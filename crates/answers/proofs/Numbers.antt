@@ -1,6 +1,5 @@
 -- A refusal's number and place, and an answer as one number.
-use mathlib.Core.Path.{_≡_, sym, _∙_, ap}
-use Prim.Native.Nat.{ℕ, _+_, _*_}
+use Rattle.rules.proofs.Basics.{_≡_, sym, _∙_, ap, ℕ, _+_, _*_}
 use Rattle.rules.specs.declared.Refusal.{Refusal}
 use Rattle.rules.specs.declared.Answer.{Answer}
 use Rattle.rules.specs.declared.Answer.the-variants.{Done, Refused}

@@ -1,14 +1,6 @@
 -- The texts of numbers, written a part at a time.
-use mathlib.Core.Path.{_≡_, refl, ap, _∙_}
-use mathlib.Core.Bool.{Bool}
-use mathlib.Core.List.{List, [], _∷_}
-use Prim.Native.Nat.{ℕ, zero, suc, _+_, _-_, _/_, _%_, _^_, zero-le}
-use native.Mathlib.Nat.{pow-suc, div-div-eq-div-mul}
-use native.Mathlib.Numerals.{add-one}
-use native.Mathlib.Omega.{arith}
-use lib.IntN.{ℤ, pos, negsuc, natAbs}
+use Rattle.rules.proofs.Basics.{_≡_, refl, ap, _∙_, Bool, List, [], _∷_, ℕ, zero, suc, _+_, _-_, _/_, _%_, _^_, zero-le, pow-suc, div-div-eq-div-mul, add-one, arith, ℤ, pos, negsuc, natAbs, le-ltb}
 use lib.Signed.{ltZ}
-use borrow.Author.Tests.{le-ltb}
 use Rattle.rules.specs.Digits.{digit, digits, last-digits, fraction, sign, signed-digits, decimal-text}
 use Rattle.writing.specs.Written.{Written}
 use Rattle.writing.proofs.Laws.{then}

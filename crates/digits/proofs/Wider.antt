@@ -1,12 +1,7 @@
 -- The opposite of a number of 32 bits, taken at 64 bits: it always fits.
-use mathlib.Core.Path.{_≡_, refl, ap, _∙_}
-use mathlib.Core.Bool.{true, false}
-use Prim.Native.Nat.{ℕ, zero, suc, _<_, _^_}
-use native.Mathlib.Omega.{arith}
-use lib.Dec.{T}
-use lib.IntN.{ℤ, pos, negsuc, negℤ, natAbs, _-ℤ_, +ℤ-idl}
+use Rattle.rules.proofs.Basics.{_≡_, refl, ap, _∙_, true, false, ℕ, zero, suc, _<_, _^_, arith, T, ℤ, pos, negsuc, natAbs, _-ℤ_, ltb-true}
+use lib.IntN.{negℤ, +ℤ-idl}
 use lib.Signed.{mag, ltZ, nonNeg}
-use borrow.Author.Tests.{ltb-true}
 use mir.Syntax.{w32, w64}
 use mir.Val.{SFits, Fits, toZ, ofZ}
 use mir.Facts.{sfits-widen, toZ-ofZ, fits-natAbs}

@@ -1,6 +1,5 @@
 -- The readings of a function in a cycle of calls: of itself, whose measure is t, and of one that it calls, whose measure is below t.
-use mathlib.Core.List.{List}
-use Prim.Native.Nat.{ℕ, _<_}
+use Rattle.rules.proofs.Basics.{List, ℕ, _<_}
 use borrow.Fn.Kind.{PK}
 use borrow.Fn.Kinds.{In}
 use borrow.Fn.PlainCycle.{Measures, is, falls, and}

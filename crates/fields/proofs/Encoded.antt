@@ -1,13 +1,6 @@
 -- The field of an encoding: behind any bytes it is whole, and its value is the value.
-use mathlib.Core.Path.{_≡_}
-use mathlib.Core.List.{List, _∷_, _++_}
-use mathlib.Core.Bool.{true}
-use Prim.Native.Nat.{ℕ, _+_, _*_, _-_, _/_, _%_, _<_}
-use native.Mathlib.Omega.{arith}
-use lib.Dec.{leb}
-use lib.ListN.{length, take, drop, length-append}
-use lib.Seq.{getD-append-seam, getD-append-add, drop-append-add, take-at}
-use borrow.Author.Tests.{le-leb}
+use Rattle.rules.proofs.Basics.{_≡_, List, _∷_, _++_, true, ℕ, _+_, _*_, _-_, _/_, _%_, _<_, arith, leb, length, take, drop, length-append, take-at, le-leb}
+use lib.Seq.{getD-append-seam, getD-append-add, drop-append-add}
 use Rattle.rules.specs.Encode.{field}
 use Rattle.fields.specs.declared.Field.the-variants.{Whole}
 use Rattle.fields.specs.FieldAt.{field-at}

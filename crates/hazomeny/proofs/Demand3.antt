@@ -1,9 +1,6 @@
 -- Demand 3 stated of the public contracts (src/lib.rt): what satisfies them on two accepted files that are equal but for bytes inside texts. The words are
 -- those of rules/specs/Alike; `said` is what an answer says, `decoded` what the number that a C name answers says.
-use mathlib.Core.Path.{_≡_, sym, _∙_, ap}
-use mathlib.Core.List.{List}
-use Prim.Native.Nat.{ℕ}
-use lib.ListN.{length}
+use Rattle.rules.proofs.Basics.{_≡_, sym, _∙_, ap, List, ℕ, length}
 use Rattle.rules.specs.declared.Answer.{Answer}
 use Rattle.rules.specs.Result.{Result, said}
 use Rattle.rules.specs.Answers.{check-answer, layout-outcome, coded, coded-outcome, decoded}

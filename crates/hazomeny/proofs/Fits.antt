@@ -1,13 +1,6 @@
 -- Every answer's number fits 64 bits and loses nothing: places and counts are at most a file's length, a page is shorter than 2^50 bytes, and refusals
 -- have numbers of 1 to 255.
-use mathlib.Core.Path.{_≡_, refl, sym, subst, _∙_, ap}
-use mathlib.Core.List.{List}
-use mathlib.Core.Bool.{Bool, true, false}
-use Prim.Native.Nat.{ℕ, _^_, _<_}
-use native.Mathlib.Omega.{arith}
-use lib.Dec.{leb}
-use lib.ListN.{length, getD}
-use borrow.Author.Tests.{leb-true}
+use Rattle.rules.proofs.Basics.{_≡_, refl, sym, subst, _∙_, ap, List, Bool, true, false, ℕ, _^_, _<_, arith, leb, length, getD, leb-true}
 use Rattle.rules.specs.Bytes.{newline}
 use Rattle.rules.specs.Result.{Result, refused, accepted, _>>=_, _>>_, need}
 use Rattle.rules.specs.Tree.{Frag}

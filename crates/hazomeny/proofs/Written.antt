@@ -1,11 +1,5 @@
 -- What an accepted page says to a caller: its bytes stand in the page.
-use mathlib.Core.Path.{_≡_, sym, subst}
-use mathlib.Core.List.{List, _++_}
-use mathlib.Core.Bool.{Bool, true, false}
-use Prim.Native.Nat.{ℕ, _≤_}
-use native.Mathlib.Omega.{arith}
-use lib.Dec.{leb}
-use lib.ListN.{length, take, drop, length-take, length-append}
+use Rattle.rules.proofs.Basics.{_≡_, sym, subst, List, _++_, Bool, true, false, ℕ, _≤_, arith, leb, length, take, drop, length-take, length-append}
 use Rattle.rules.specs.declared.Answer.{Answer}
 use Rattle.rules.specs.declared.Answer.the-variants.{Done}
 use Rattle.rules.specs.Result.{Result, refused, accepted, said}

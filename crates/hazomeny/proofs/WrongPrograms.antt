@@ -1,9 +1,5 @@
 -- How far the public contracts reach: no second outcome satisfies one, and each of document 01's five wrong programs fails one at an input named here.
-use mathlib.Core.Path.{_≡_, refl, sym, _∙_, ap}
-use mathlib.Core.List.{List, []}
-use Prim.Native.Nat.{ℕ, _+_}
-use native.Mathlib.Omega.{arith}
-use lib.ListN.{length, getD, replicate}
+use Rattle.rules.proofs.Basics.{_≡_, refl, sym, _∙_, ap, List, [], ℕ, _+_, arith, length, getD, replicate}
 use Rattle.rules.specs.declared.Refusal.{Refusal}
 use Rattle.rules.specs.declared.Answer.{Answer}
 use Rattle.rules.specs.declared.Answer.the-variants.{Done, Refused}

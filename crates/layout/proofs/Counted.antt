@@ -1,11 +1,5 @@
 -- Capped counts, and how many bytes of one field change.
-use mathlib.Core.Path.{_≡_, refl, sym, ap, ap₂, _∙_}
-use mathlib.Core.List.{List, [], _∷_, _++_, append-nil}
-use mathlib.Core.Bool.{Bool, true, false}
-use Prim.Native.Nat.{ℕ, suc, _+_, _≤_}
-use native.Mathlib.Omega.{arith}
-use lib.Dec.{eqb}
-use lib.ListN.{length, length-append}
+use Rattle.rules.proofs.Basics.{_≡_, refl, sym, ap, ap₂, _∙_, List, [], _∷_, _++_, append-nil, Bool, true, false, ℕ, suc, _+_, _≤_, arith, eqb, length, length-append}
 use Rattle.rules.specs.Bytes.{if_then_else_, cap}
 use Rattle.rules.specs.Encode.{field}
 use Rattle.rules.specs.Answers.{changed}

@@ -1,6 +1,5 @@
 -- No second answer satisfies the contracts of this crate, with layouts below 2^33: from there on a number says what a smaller one says.
-use mathlib.Core.Path.{_≡_, ap}
-use Prim.Native.Nat.{_^_, _<_}
+use Rattle.rules.proofs.Basics.{_≡_, ap, _^_, _<_}
 use Rattle.shapes.proofs.Determined.{shape-unique}
 use Rattle.layout.specs.declared.choice.Laid as Code
 use Rattle.layout.specs.declared.stretch.Stretch.{Stretch}

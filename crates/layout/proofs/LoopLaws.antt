@@ -1,14 +1,5 @@
 -- The loops over a block's fragments and over a fragment's nodes: their start, a turn and their end.
-use mathlib.Core.Path.{_≡_, refl, sym, subst, ap, _∙_}
-use mathlib.Core.List.{List, _++_, append-assoc}
-use mathlib.Core.Bool.{Bool, true, false}
-use Prim.Native.Nat.{ℕ, _+_, _-_, _<_, _≤_}
-use native.Mathlib.Nat.{le-of-lt}
-use native.Mathlib.Omega.{arith}
-use lib.Dec.{eqb}
-use lib.ListN.{length, take, drop, length-drop, length-take, length-append, drop-of-length-le}
-use lib.Seq.{drop-at}
-use borrow.Author.Tests.{eqb-true, eqb-false}
+use Rattle.rules.proofs.Basics.{_≡_, refl, sym, subst, ap, _∙_, List, _++_, append-assoc, Bool, true, false, ℕ, _+_, _-_, _<_, _≤_, le-of-lt, arith, eqb, length, take, drop, length-drop, length-take, length-append, drop-of-length-le, drop-at, eqb-true, eqb-false}
 use Rattle.rules.specs.Bytes.{if_then_else_, cap}
 use Rattle.rules.specs.Layout.{Shape, Inline, Block, _⊕_}
 use Rattle.rigid.specs.RigidIn.{rigid-in}

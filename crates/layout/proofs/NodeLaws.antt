@@ -1,11 +1,5 @@
 -- A node's flexible layout: its cases.
-use mathlib.Core.Path.{_≡_, refl, ap, _∙_}
-use mathlib.Core.List.{List, [], _∷_}
-use Prim.Native.Nat.{ℕ, zero, suc, _-_, _<_, max}
-use native.Mathlib.Numerals.{sub-one}
-use native.Mathlib.Omega.{arith}
-use lib.ListN.{length, getD}
-use borrow.Author.Tests.{eq-eqb, ne-eqb}
+use Rattle.rules.proofs.Basics.{_≡_, refl, ap, _∙_, List, [], _∷_, ℕ, zero, suc, _-_, _<_, max, sub-one, arith, length, getD, eq-eqb, ne-eqb}
 use Rattle.rules.specs.Layout.{Shape, Block, _⊕_, room}
 use Rattle.parts.specs.Walk.{Is}
 use Rattle.layout.specs.LaidIn.{Laid, decided, fragments-in, node-in, nodes-in, flex-in, fragment-in}

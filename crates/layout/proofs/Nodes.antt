@@ -1,12 +1,5 @@
 -- One node's field, laid out: a leaf stays, a block is laid out over the row in it; and a field of a stretch.
-use mathlib.Core.Path.{_≡_, refl, sym, ap, subst, _∙_}
-use mathlib.Core.List.{List, [], _∷_, _++_}
-use mathlib.Core.Bool.{Bool, true, false}
-use Prim.Native.Nat.{ℕ, zero, suc, _+_, _-_, _≤_, _<_, max}
-use native.Mathlib.Omega.{arith}
-use lib.Dec.{leb, eqb}
-use lib.ListN.{length, length-append}
-use borrow.Author.Tests.{le-leb}
+use Rattle.rules.proofs.Basics.{_≡_, refl, sym, ap, subst, _∙_, List, [], _∷_, _++_, Bool, true, false, ℕ, zero, suc, _+_, _-_, _≤_, _<_, max, arith, leb, eqb, length, length-append, le-leb}
 use Rattle.rules.specs.Bytes.{cap}
 use Rattle.rules.specs.Layout.{Shape, Inline, Block, _⊕_, room, kept-inline, chosen}
 use Rattle.rules.specs.Ahead.{stretch}

@@ -1,9 +1,5 @@
 -- Layout by the bytes of a file is layout on its tree.
-use mathlib.Core.Path.{_≡_, refl, sym, ap, subst, _∙_}
-use mathlib.Core.List.{List, _++_}
-use Prim.Native.Nat.{ℕ, suc, _+_, _*_, _-_, _≤_, max}
-use native.Mathlib.Omega.{arith}
-use lib.ListN.{length}
+use Rattle.rules.proofs.Basics.{_≡_, refl, sym, ap, subst, _∙_, List, _++_, ℕ, suc, _+_, _*_, _-_, _≤_, max, arith, length}
 use Rattle.rules.specs.Bytes.{cap, newline}
 use Rattle.rules.specs.Walk.{Fields, in-fragment, in-block, holds, is-block}
 use Rattle.rules.specs.Tree.{Leaf, indented, flexible, Frag, stop, leaf, block, Frags, none-left, frag}

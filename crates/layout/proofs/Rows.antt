@@ -1,11 +1,5 @@
 -- Rows of fields, laid out one after the other: what a walk makes of them, with the number of bytes it changes.
-use mathlib.Core.Path.{_≡_, refl, sym, ap, subst, _∙_}
-use mathlib.Core.List.{List, [], _++_}
-use Prim.Native.Nat.{ℕ, zero, suc, _+_, _≤_, _<_}
-use native.Mathlib.Omega.{arith}
-use lib.Dec.{eqb}
-use lib.ListN.{length, length-append}
-use borrow.Author.Tests.{eq-eqb}
+use Rattle.rules.proofs.Basics.{_≡_, refl, sym, ap, subst, _∙_, List, [], _++_, ℕ, zero, suc, _+_, _≤_, _<_, arith, eqb, length, length-append, eq-eqb}
 use Rattle.rules.specs.Bytes.{cap}
 use Rattle.rules.specs.Layout.{Shape, _⊕_}
 use Rattle.rules.specs.Encode.{field}

@@ -1,10 +1,5 @@
 -- A stretch of rigid layouts: the loop over it, a node of it, and what its Block says of a node.
-use mathlib.Core.Path.{_≡_, refl, sym, ap, _∙_}
-use mathlib.Core.List.{List, [], _∷_}
-use Prim.Native.Nat.{ℕ, zero, suc, _+_, _-_, _<_, _≤_}
-use native.Mathlib.Omega.{arith}
-use lib.ListN.{length, take, drop, length-drop}
-use borrow.Author.Tests.{eq-eqb, ne-eqb}
+use Rattle.rules.proofs.Basics.{_≡_, refl, sym, ap, _∙_, List, [], _∷_, ℕ, zero, suc, _+_, _-_, _<_, _≤_, arith, length, take, drop, length-drop, eq-eqb, ne-eqb}
 use Rattle.rules.specs.Layout.{Shape, Inline, Block, _⊕_}
 use Rattle.rules.specs.Ahead.{stretch}
 use Rattle.rigid.specs.RigidIn.{rigid-in}

@@ -1,9 +1,5 @@
 -- Layout of a whole file: what is refused, and what an accepted file becomes.
-use mathlib.Core.Path.{_≡_, refl, sym, ap, _∙_}
-use mathlib.Core.List.{List}
-use Prim.Native.Nat.{ℕ, _*_, _≤_}
-use lib.ListN.{length}
-use borrow.Author.Tests.{le-leb}
+use Rattle.rules.proofs.Basics.{_≡_, refl, sym, ap, _∙_, List, ℕ, _*_, _≤_, length, le-leb}
 use Rattle.rules.specs.Bytes.{newline}
 use Rattle.rules.specs.declared.Refusal.{Refusal}
 use Rattle.rules.specs.declared.Answer.{Answer}

@@ -1,10 +1,5 @@
 -- No second answer satisfies the contracts of this crate.
-use mathlib.Core.Path.{_≡_, refl, sym, _∙_, ap}
-use mathlib.Core.List.{List, [], _∷_, _++_}
-use mathlib.Core.Option.{Option, none, some}
-use Prim.Native.Nat.{ℕ}
-use native.Mathlib.Omega.{arith}
-use lib.ListN.{length, take, length-append}
+use Rattle.rules.proofs.Basics.{_≡_, refl, sym, _∙_, ap, List, [], _∷_, _++_, Option, none, some, ℕ, arith, length, take, length-append}
 use lib.Seq.{take-append-seam}
 use Rattle.rules.specs.Lines as rules
 use Rattle.rules.specs.Plain.{chars, fill}

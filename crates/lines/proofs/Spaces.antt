@@ -1,11 +1,5 @@
 -- What comes before an item: the target, and the waiting break with the spaces.
-use mathlib.Core.Path.{_≡_, refl, ap, _∙_}
-use mathlib.Core.List.{List, [], _++_}
-use mathlib.Core.Option.{none}
-use mathlib.Core.Bool.{Bool, true, false}
-use Prim.Native.Nat.{ℕ, _<_}
-use native.Mathlib.Omega.{arith}
-use lib.Dec.{eqb}
+use Rattle.rules.proofs.Basics.{_≡_, refl, ap, _∙_, List, [], _++_, none, Bool, true, false, ℕ, _<_, arith, eqb}
 use Rattle.rules.specs.Bytes.{if_then_else_}
 use Rattle.rules.specs.Lines as rules
 use Rattle.lines.specs.declared.Waiting as W

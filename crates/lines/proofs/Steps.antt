@@ -1,10 +1,5 @@
 -- An operation's whole step, from what comes before its items.
-use mathlib.Core.Path.{_≡_, refl, sym, ap, _∙_}
-use mathlib.Core.List.{List, [], _∷_, _++_, append-nil, append-assoc}
-use mathlib.Core.Bool.{Bool, false}
-use Prim.Native.Nat.{ℕ}
-use native.Mathlib.Omega.{arith}
-use lib.ListN.{length}
+use Rattle.rules.proofs.Basics.{_≡_, refl, sym, ap, _∙_, List, [], _∷_, _++_, append-nil, append-assoc, Bool, false, ℕ, arith, length}
 use Rattle.rules.specs.Lines as rules
 use Rattle.lines.specs.declared.LineState as L
 use Rattle.lines.specs.declared.Waiting as W

@@ -1,8 +1,5 @@
 -- The tags of anchors.
-use mathlib.Core.Path.{_≡_}
-use mathlib.Core.List.{List, [], _∷_, append-nil}
-use mathlib.Core.Bool.{Bool, true, false}
-use Prim.Native.Nat.{ℕ}
+use Rattle.rules.proofs.Basics.{_≡_, List, [], _∷_, append-nil, Bool, true, false, ℕ}
 use Rattle.rules.specs.Answers.{itself}
 use Rattle.rules.specs.Bytes.{ascii, join}
 use Rattle.rules.specs.Html.{id-attribute, mark-html}

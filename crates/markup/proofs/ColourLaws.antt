@@ -1,11 +1,6 @@
 -- The texts of colours.
-use mathlib.Core.Path.{_≡_, ap, _∙_}
-use mathlib.Core.List.{List, [], _∷_, append-assoc, append-nil}
-use mathlib.Core.Bool.{true, false}
-use mathlib.Core.Option.{none, some}
-use Prim.Native.Nat.{ℕ}
+use Rattle.rules.proofs.Basics.{_≡_, ap, _∙_, List, [], _∷_, append-assoc, append-nil, true, false, none, some, ℕ, length, getD}
 use lib.Ieee.{binary32, toBits}
-use lib.ListN.{length, getD}
 use Rattle.rules.specs.Bytes.{ascii, join}
 use Rattle.rules.specs.Digits.{hex}
 use Rattle.rules.specs.Html.{separated, colour-css}

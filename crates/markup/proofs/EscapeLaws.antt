@@ -1,11 +1,5 @@
 -- Texts with their escapes, byte by byte.
-use mathlib.Core.Path.{_≡_, refl, _∙_}
-use mathlib.Core.List.{List, [], _∷_, _++_, map, append-nil, append-assoc}
-use Prim.Native.Nat.{ℕ, _+_, _<_, _≤_}
-use native.Mathlib.Numerals.{add-one}
-use lib.ListN.{length, getD, take}
-use lib.Seq.{take-suc, take-all}
-use borrow.Author.Tests.{ne-eqb}
+use Rattle.rules.proofs.Basics.{_≡_, refl, _∙_, List, [], _∷_, _++_, map, append-nil, append-assoc, ℕ, _+_, _<_, _≤_, add-one, length, getD, take, take-suc, take-all, ne-eqb}
 use Rattle.rules.specs.Answers.{itself}
 use Rattle.rules.specs.Bytes.{ascii}
 use Rattle.rules.specs.Html.{escape, escaped, item-html, items-html}

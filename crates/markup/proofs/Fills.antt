@@ -1,7 +1,5 @@
 -- Page bytes made here and copied ones, filled in: laws of `fill` where a byte stands for itself.
-use mathlib.Core.Path.{_≡_, refl, ap}
-use mathlib.Core.List.{List, [], _∷_, _++_}
-use Prim.Native.Nat.{ℕ}
+use Rattle.rules.proofs.Basics.{_≡_, refl, ap, List, [], _∷_, _++_, ℕ}
 use Rattle.rules.specs.Answers.{itself}
 use Rattle.rules.specs.Html.{makes, copies}
 use Rattle.rules.specs.Lines.{Out, made, copied}

@@ -1,7 +1,5 @@
 -- Writings in a row are one writing of their joined texts.
-use mathlib.Core.Path.{_≡_}
-use mathlib.Core.List.{List, [], _∷_}
-use Prim.Native.Nat.{ℕ}
+use Rattle.rules.proofs.Basics.{_≡_, List, [], _∷_, ℕ}
 use Rattle.rules.specs.Bytes.{join}
 use Rattle.writing.specs.Written.{Written}
 use Rattle.writing.proofs.Laws.{nothing, then}

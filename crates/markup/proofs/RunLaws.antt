@@ -1,12 +1,6 @@
 -- Runs of bytes that are not escaped: where they end, and what they are on the page.
-use mathlib.Core.Path.{_≡_, refl, _∙_}
-use mathlib.Core.List.{List, [], _∷_}
-use Prim.Native.Nat.{ℕ, suc, _+_, _-_, _<_, _≤_}
-use native.Mathlib.Numerals.{add-one}
-use native.Mathlib.Omega.{arith}
-use lib.ListN.{length, getD, take, drop, length-drop, drop-of-length-le}
-use lib.Seq.{drop-cons, take-add}
-use borrow.Author.Tests.{ne-eqb}
+use Rattle.rules.proofs.Basics.{_≡_, refl, _∙_, List, [], _∷_, ℕ, suc, _+_, _-_, _<_, _≤_, add-one, arith, length, getD, take, drop, length-drop, drop-of-length-le, drop-cons, ne-eqb}
+use lib.Seq.{take-add}
 use Rattle.rules.specs.Html.{Escape, ampersand, less-than, as-it-is, escape, escaped}
 use Rattle.rules.specs.Plain.{fill}
 use Rattle.writing.specs.Written.{Written}

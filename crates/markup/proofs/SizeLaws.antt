@@ -1,11 +1,5 @@
 -- The effective size of a style, and its text.
-use mathlib.Core.Path.{_≡_, refl, sym, subst, _∙_}
-use mathlib.Core.List.{List, [], _∷_}
-use mathlib.Core.Bool.{Bool, true, false, _||_}
-use mathlib.Core.Option.{Option, none, some}
-use Prim.Native.Nat.{ℕ}
-use lib.Dec.{T}
-use lib.IntN.{ℤ, pos}
+use Rattle.rules.proofs.Basics.{_≡_, refl, sym, subst, _∙_, List, [], _∷_, Bool, true, false, _||_, Option, none, some, ℕ, T, ℤ, pos}
 use lib.Signed.{_≤ℤ_, leZ-yes}
 use mir.Syntax.{w8}
 use mir.Val.{SFits, toZ, ofZ}

@@ -1,9 +1,5 @@
 -- The name of a style's tag, and its attributes.
-use mathlib.Core.Path.{_≡_, refl, sym, subst}
-use mathlib.Core.List.{List, [], _∷_}
-use mathlib.Core.Bool.{Bool, true, false}
-use Prim.Native.Nat.{ℕ}
-use lib.Dec.{T}
+use Rattle.rules.proofs.Basics.{_≡_, refl, sym, subst, List, [], _∷_, Bool, true, false, ℕ, T}
 use Rattle.rules.specs.Bytes.{if_then_else_, ascii, join}
 use Rattle.rules.specs.Html.{tag-name, attribute}
 use Rattle.styles.specs.declared.Styles.{Styles}

@@ -1,8 +1,6 @@
 -- The weight of a text: 500 and 100 times its thickness, at 32 bits.
-use mathlib.Core.Path.{_≡_, ap, _∙_}
-use mathlib.Core.List.{[], _∷_}
-use mathlib.Core.Bool.{true, false}
-use lib.IntN.{ℤ, pos, _+ℤ_, _*ℤ_}
+use Rattle.rules.proofs.Basics.{_≡_, ap, _∙_, [], _∷_, true, false, ℤ, pos, _+ℤ_}
+use lib.IntN.{_*ℤ_}
 use mir.Syntax.{w8, w32}
 use mir.Val.{SFits, toZ, ofZ}
 use mir.Facts.{toZ-ofZ}

@@ -1,12 +1,5 @@
 -- An opacity's decimal is small: it has at most ten places, and is at most 1. The decimals of 0 and 1 are computed.
-use mathlib.Core.Path.{_≡_, refl}
-use mathlib.Core.Bool.{true, false}
-use mathlib.Core.Logic.{⊎-elim}
-use Prim.Native.Nat.{ℕ, suc, _+_, _*_, _/_, _%_, _^_, _≤_, _<_}
-use native.Mathlib.Nat.{mul-le-mul-right, le-of-mul-le-mul-right, mul-comm}
-use native.Mathlib.Decide.{decLt}
-use native.Mathlib.Omega.{arith}
-use lib.Dec.{le→leb}
+use Rattle.rules.proofs.Basics.{_≡_, refl, true, false, ⊎-elim, ℕ, suc, _+_, _*_, _/_, _%_, _^_, _≤_, _<_, mul-le-mul-right, le-of-mul-le-mul-right, mul-comm, decLt, arith, le→leb}
 use lib.Pow.{pow-pos}
 use lib.Ieee.{binary32, low}
 use Rattle.rules.specs.Float.{mag}

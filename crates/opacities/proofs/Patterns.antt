@@ -1,14 +1,8 @@
 -- An opacity's bits as the code takes them apart: m over u, where m has the leading one and the digits, and u is 2 ^ (150 - the exponent's field).
-use mathlib.Core.Path.{_≡_, sym, ap, _∙_, subst}
-use mathlib.Core.Bool.{true, and-eq-true-iff}
-use mathlib.Core.Logic.{inl, inr}
-use Prim.Native.Nat.{ℕ, zero, suc, _+_, _-_, _*_, _/_, _%_, _^_, _≤_, _<_}
-use native.Mathlib.Nat.{pow-suc, one-mul, mul-assoc, mul-mod-left}
-use native.Mathlib.Decide.{decLe}
-use native.Mathlib.Omega.{arith}
+use Rattle.rules.proofs.Basics.{_≡_, sym, ap, _∙_, subst, true, and-eq-true-iff, inl, inr, ℕ, zero, suc, _+_, _-_, _*_, _/_, _%_, _^_, _≤_, _<_, pow-suc, mul-assoc, decLe, arith, leb-true, ne-eqb}
+use native.Mathlib.Nat.{one-mul, mul-mod-left}
 use lib.Pow.{pow-pos, pow-mono, pow-add, shl-exact}
 use lib.Ieee.{binary32, low}
-use borrow.Author.Tests.{leb-true, ne-eqb}
 use Rattle.rules.specs.Float.{magnitude, mag}
 use Rattle.rules.specs.Walk.{right-opacity}
 use Rattle.rules.proofs.Nearest as rules

@@ -1,12 +1,6 @@
 -- Which whole number is picked, by the facts that the code tests; the sizes of its numbers.
-use mathlib.Core.Path.{_≡_, refl, sym}
-use mathlib.Core.Bool.{Bool, true, false, false≢true}
-use mathlib.Core.Logic.{_⊎_, inl, inr, ⊎-elim}
-use mathlib.Core.Option.{none, some}
-use Prim.Native.Nat.{ℕ, suc, _+_, _-_, _*_, _/_, _^_, _≤_, _<_}
-use native.Mathlib.Nat.{mul-le-mul, mod-lt, le-of-lt, le-trans, div-le-self}
-use native.Mathlib.Omega.{arith}
-use borrow.Author.Tests.{le-leb, lt-ltb, le-ltb}
+use Rattle.rules.proofs.Basics.{_≡_, refl, sym, Bool, true, false, false≢true, _⊎_, inl, inr, ⊎-elim, none, some, ℕ, suc, _+_, _-_, _*_, _/_, _^_, _≤_, _<_, mod-lt, le-of-lt, le-trans, arith, le-leb, lt-ltb, le-ltb}
+use native.Mathlib.Nat.{mul-le-mul, div-le-self}
 use Rattle.rules.specs.Search.{choice}
 use Rattle.opacities.specs.Picked.{rest, lower-reads, upper-reads, picked, Sized, Reached}
 

@@ -1,11 +1,7 @@
 -- The rule's tests in the code's numbers: at p places the code picks what the rule does.
-use mathlib.Core.Path.{_≡_, refl, sym, ap, _∙_, subst⁻¹}
-use mathlib.Core.Bool.{Bool, true, false}
-use Prim.Native.Nat.{ℕ, suc, _+_, _-_, _*_, _/_, _%_, _^_, _≤_, _<_}
-use native.Mathlib.Nat.{suc-mul, mul-comm, mul-assoc, mul-right-comm, mul-le-mul-right, mul-lt-mul-of-pos-right, mul-pos, le-of-mul-le-mul-right, lt-of-mul-lt-mul-right, mul-div-mul-right, div-add-mod', mod-lt, add-mul}
-use native.Mathlib.Decide.{decLt}
-use native.Mathlib.Omega.{arith}
-use lib.Dec.{T, leb→le, le→leb, ltb→lt, lt→ltb}
+use Rattle.rules.proofs.Basics.{_≡_, refl, sym, ap, _∙_, subst⁻¹, Bool, true, false, ℕ, suc, _+_, _-_, _*_, _/_, _%_, _^_, _≤_, _<_, suc-mul, mul-comm, mul-assoc, mul-le-mul-right, mul-lt-mul-of-pos-right, le-of-mul-le-mul-right, div-add-mod', mod-lt, decLt, arith, T, leb→le, le→leb, ltb→lt}
+use native.Mathlib.Nat.{mul-right-comm, mul-pos, lt-of-mul-lt-mul-right, mul-div-mul-right, add-mul}
+use lib.Dec.{lt→ltb}
 use lib.Ieee.{Format, low}
 use Rattle.rules.specs.Float.{mag, off}
 use Rattle.rules.specs.Search.{nearest, prefers-lower, choice, at-places, floor}

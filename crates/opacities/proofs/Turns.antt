@@ -1,11 +1,6 @@
 -- The search, turn by turn: the rule's search goes on from as many places as the code has come to.
-use mathlib.Core.Path.{_≡_, refl, sym, ap, _∙_}
-use mathlib.Core.Bool.{false}
-use mathlib.Core.Option.{Option, none, some}
-use Prim.Native.Nat.{ℕ, suc, _+_, _-_, _*_, _^_, _≤_, _<_}
-use native.Mathlib.Nat.{pow-le-pow-right, pow-suc}
-use native.Mathlib.Decide.{decLt}
-use native.Mathlib.Omega.{arith}
+use Rattle.rules.proofs.Basics.{_≡_, refl, sym, ap, _∙_, false, Option, none, some, ℕ, suc, _+_, _-_, _*_, _^_, _≤_, _<_, pow-suc, decLt, arith}
+use native.Mathlib.Nat.{pow-le-pow-right}
 use lib.Ieee.{binary32}
 use Rattle.rules.specs.Search.{found, from-places, shortest}
 use Rattle.rules.specs.Sizes.{signed-decimal}

@@ -1,7 +1,5 @@
 -- No second answer satisfies the contracts of this crate. A pen is fixed by what it says: a waiting newline has two numbers.
-use mathlib.Core.Path.{_≡_, sym, _∙_}
-use mathlib.Core.List.{List}
-use Prim.Native.Nat.{ℕ}
+use Rattle.rules.proofs.Basics.{_≡_, sym, _∙_, List, ℕ}
 use Rattle.lines.specs.declared.LineOp.{LineOp}
 use Rattle.writing.proofs.Determined.{written-unique}
 use Rattle.pages.specs.OpsIn.{Ops}

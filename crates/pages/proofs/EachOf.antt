@@ -1,13 +1,5 @@
 -- The operations at fields that stand one after the other.
-use mathlib.Core.Path.{_≡_, refl, _∙_}
-use mathlib.Core.List.{List, [], _∷_, _++_}
-use mathlib.Core.Bool.{true}
-use Prim.Native.Nat.{ℕ, zero, suc, _≤_, _<_}
-use native.Mathlib.Omega.{arith}
-use lib.Dec.{leb}
-use lib.ListN.{length, length-append}
-use lib.Seq.{drop-at}
-use borrow.Author.Tests.{le-leb}
+use Rattle.rules.proofs.Basics.{_≡_, refl, _∙_, List, [], _∷_, _++_, true, ℕ, zero, suc, _≤_, _<_, arith, leb, length, length-append, drop-at, le-leb}
 use Rattle.rules.specs.Encode.{field}
 use Rattle.parts.specs.Walk.{here, rest}
 use Rattle.parts.proofs.OfFields.{length-field, here-field, rest-field}

@@ -1,9 +1,5 @@
 -- A loop over fields that renders each.
-use mathlib.Core.Path.{_≡_, refl, sym, ap, _∙_}
-use mathlib.Core.List.{List, [], _++_, append-nil, append-assoc}
-use Prim.Native.Nat.{ℕ, _-_, _<_, _≤_}
-use native.Mathlib.Omega.{arith}
-use lib.ListN.{length, take, drop, length-drop}
+use Rattle.rules.proofs.Basics.{_≡_, refl, sym, ap, _∙_, List, [], _++_, append-nil, append-assoc, ℕ, _-_, _<_, _≤_, arith, length, take, drop, length-drop}
 use Rattle.parts.specs.Walk.{span, here, rest, Ends}
 use Rattle.parts.proofs.Loops.{Left, left-more, left-ends}
 use Rattle.pages.specs.OpsIn.{Ops, each, each-from}

@@ -1,11 +1,5 @@
 -- How long the HTML body and document of a good tree can be: what their items cost, and the fixed bytes around them.
-use mathlib.Core.Path.{_≡_, refl}
-use mathlib.Core.List.{List, [], _∷_, _++_}
-use mathlib.Core.Bool.{Bool, true, false}
-use Prim.Native.Nat.{ℕ, _+_, _*_, _≤_, _<_}
-use native.Mathlib.Omega.{arith}
-use lib.Dec.{leb→le}
-use lib.ListN.{length, length-append, length-map}
+use Rattle.rules.proofs.Basics.{_≡_, refl, List, [], _∷_, _++_, Bool, true, false, ℕ, _+_, _*_, _≤_, _<_, arith, leb→le, length, length-append, length-map}
 use Rattle.rules.specs.Bytes.{ascii, newline}
 use Rattle.rules.specs.Walk.{Fields, in-styles}
 use Rattle.rules.specs.Tree.{Styles, styles-of, Frag}

@@ -1,13 +1,6 @@
 -- What the line machine writes, at a cost of each item: at most what its operations write themselves, and a break and spaces before each.
-use mathlib.Core.Path.{_≡_, refl}
-use mathlib.Core.List.{List, [], _∷_, _++_, map}
-use mathlib.Core.Option.{Option, none, some}
-use mathlib.Core.Bool.{Bool, true, false, _&&_}
-use Prim.Native.Nat.{ℕ, suc, _+_, _*_, _-_, _≤_}
+use Rattle.rules.proofs.Basics.{_≡_, refl, List, [], _∷_, _++_, map, Option, none, some, Bool, true, false, _&&_, ℕ, suc, _+_, _*_, _-_, _≤_, arith, ltb, eqb, length, replicate, length-replicate}
 use native.Mathlib.Nat.{pred-le}
-use native.Mathlib.Omega.{arith}
-use lib.Dec.{ltb, eqb}
-use lib.ListN.{length, replicate, length-replicate}
 use Rattle.rules.specs.Bytes.{if_then_else_}
 use Rattle.rules.specs.Lines.{LineOp, part, mark, empty-anchor, new-line, break, indent, unindent, open-anchor, close-anchor, Break, a-space, a-newline, Line, empty, indented-by, has-text, Machine, Item, char, marked, made, copied, ignored, target, making, release, levels, spacing, item, broken, step, run}
 

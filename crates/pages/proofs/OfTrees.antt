@@ -1,8 +1,5 @@
 -- The line operations by the bytes of a file are those of its tree.
-use mathlib.Core.Path.{_≡_, refl, sym, ap, _∙_}
-use mathlib.Core.List.{List, [], _∷_, _++_, append-assoc, append-nil}
-use mathlib.Core.Bool.{Bool, true, false}
-use Prim.Native.Nat.{ℕ, suc, _+_}
+use Rattle.rules.proofs.Basics.{_≡_, refl, sym, ap, _∙_, List, [], _∷_, _++_, append-assoc, append-nil, Bool, true, false, ℕ, suc, _+_}
 use Rattle.rules.specs.Bytes.{newline}
 use Rattle.rules.specs.Walk.{in-fragment, in-block, holds, is-block}
 use Rattle.rules.specs.Tree.{indented, flexible, Frag, stop, leaf, block, Frags, none-left, frag}

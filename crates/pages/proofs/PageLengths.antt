@@ -1,11 +1,5 @@
 -- How long the page of a good tree can be: what its items cost, at a cost of each item, and the bytes of the plain page.
-use mathlib.Core.Path.{_≡_, refl, ap}
-use mathlib.Core.List.{List, [], _∷_, _++_}
-use mathlib.Core.Option.{Option, none, some}
-use mathlib.Core.Bool.{Bool, true, false}
-use Prim.Native.Nat.{ℕ, _+_, _*_, _≤_, _<_}
-use native.Mathlib.Omega.{arith}
-use lib.ListN.{length, length-append}
+use Rattle.rules.proofs.Basics.{_≡_, refl, ap, List, [], _∷_, _++_, Option, none, some, Bool, true, false, ℕ, _+_, _*_, _≤_, _<_, arith, length, length-append}
 use Rattle.rules.specs.Bytes.{if_then_else_, newline}
 use Rattle.rules.specs.Walk.{Fields, bytes, inside, Holder, in-fragment, in-block, in-text, in-anchor, in-styles, holds}
 use Rattle.rules.specs.Tree.{styles-of, Run, Leaf, text, anchor, space, force, if-block, indented, flexible, Frag, stop, leaf, block, Frags, none-left, frag}

@@ -1,11 +1,5 @@
 -- What the pen writes: a waiting break, a line's spaces, an operation's own bytes, and all of one operation.
-use mathlib.Core.Path.{_≡_, refl, sym, ap, _∙_}
-use mathlib.Core.List.{List, [], _∷_, _++_, append-nil}
-use mathlib.Core.Bool.{Bool, true}
-use mathlib.Core.Option.{none}
-use Prim.Native.Nat.{ℕ, _/_, _%_}
-use native.Mathlib.Omega.{arith}
-use lib.Dec.{eqb→eq}
+use Rattle.rules.proofs.Basics.{_≡_, refl, sym, ap, _∙_, List, [], _∷_, _++_, append-nil, Bool, true, none, ℕ, _/_, _%_, arith, eqb→eq}
 use Rattle.rules.specs.Bytes.{if_then_else_}
 use Rattle.rules.specs.Lines.{Mark, push, pop, open-anchor, close-anchor, LineOp, mark, Machine, has-text, Item, marked, making, release, spacing, item, step, run}
 use Rattle.rules.specs.Plain.{chars, fill}

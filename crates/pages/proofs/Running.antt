@@ -1,8 +1,6 @@
 -- Running operations: one after the other, with the indent kept or not.
-use mathlib.Core.Path.{_≡_, refl, sym, ap, _∙_}
-use mathlib.Core.List.{List, [], _∷_, _++_, append-assoc}
-use Prim.Native.Nat.{ℕ, suc, pred}
-use lib.ListN.{length}
+use Rattle.rules.proofs.Basics.{_≡_, refl, sym, ap, _∙_, List, [], _∷_, _++_, append-assoc, ℕ, suc, length}
+use Prim.Native.Nat.{pred}
 use Rattle.rules.specs.Lines as rules
 use Rattle.rules.specs.Lines.{Machine, Out, Item, char, made, copied, marked, LineOp, step, run, item, ignored}
 use Rattle.rules.specs.Plain.{chars, fill}

@@ -1,10 +1,5 @@
 -- The pen's number: its parts taken out and put together, and that a step's machine fits into one.
-use mathlib.Core.Path.{_≡_, refl, sym, ap, _∙_}
-use mathlib.Core.List.{List, [], _∷_}
-use mathlib.Core.Option.{some}
-use mathlib.Core.Bool.{Bool, true, false}
-use Prim.Native.Nat.{ℕ, zero, suc, _+_, _*_, _/_, _%_, _^_, _<_, _≤_, max}
-use native.Mathlib.Omega.{arith}
+use Rattle.rules.proofs.Basics.{_≡_, refl, sym, ap, _∙_, List, [], _∷_, some, Bool, true, false, ℕ, zero, suc, _+_, _*_, _/_, _%_, _^_, _<_, _≤_, max, arith}
 use Rattle.rules.specs.Lines as rules
 use Rattle.rules.specs.Lines.{Machine, Break, LineOp, part, mark, empty-anchor, new-line, break, step, item, release, spacing, broken, ignored}
 use Rattle.lines.specs.declared.LineState as L

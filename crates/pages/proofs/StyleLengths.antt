@@ -1,16 +1,7 @@
 -- How long the tags of a good style are at most, where its fields are bytes.
-use mathlib.Core.Path.{_≡_, refl}
-use mathlib.Core.List.{List, [], _∷_, _++_}
-use mathlib.Core.Option.{Option, none, some, Option·map}
-use mathlib.Core.Bool.{Bool, true, false, _||_}
-use Prim.Native.Nat.{ℕ, zero, suc, _+_, _-_, _/_, _%_, _^_, _≤_, _<_}
-use native.Mathlib.Omega.{arith}
-use lib.Dec.{T, leb, ltb, eqb, leb→le}
-use lib.IntN.{ℤ, pos, negsuc}
+use Rattle.rules.proofs.Basics.{_≡_, refl, List, [], _∷_, _++_, Option, none, some, Option·map, Bool, true, false, _||_, ℕ, zero, suc, _+_, _-_, _/_, _%_, _^_, _≤_, _<_, arith, T, leb, ltb, eqb, leb→le, ℤ, pos, negsuc, length, length-append, eqb-true, leb-true, ltb-true, ltb-false}
 use lib.Ieee.{binary32}
 use lib.Ieee.Nearest.{div-mono}
-use lib.ListN.{length, length-append}
-use borrow.Author.Tests.{eqb-true, leb-true, ltb-true, ltb-false}
 use Rattle.rules.specs.Bytes.{if_then_else_, ascii, join, number, number-from}
 use Rattle.rules.specs.Digits.{digit, digits, signed, hex, last-digits, fraction, sign, decimal-text}
 use Rattle.rules.specs.Search.{shortest}

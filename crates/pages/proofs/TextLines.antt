@@ -1,12 +1,5 @@
 -- The lines of a text: the first, and the loop over the later ones.
-use mathlib.Core.Path.{_≡_, refl, sym, ap, _∙_}
-use mathlib.Core.List.{List, [], _∷_, _++_, append-nil, append-assoc}
-use mathlib.Core.Bool.{Bool, true, false}
-use Prim.Native.Nat.{ℕ, _+_, _-_, _<_, _≤_}
-use native.Mathlib.Omega.{arith}
-use native.Mathlib.Numerals.{add-one}
-use lib.ListN.{length, take, drop, length-drop, length-take, drop-of-length-le}
-use lib.Seq.{drop-cons, drop-drop, take-all}
+use Rattle.rules.proofs.Basics.{_≡_, refl, sym, ap, _∙_, List, [], _∷_, _++_, append-nil, append-assoc, Bool, true, false, ℕ, _+_, _-_, _<_, _≤_, arith, add-one, length, take, drop, length-drop, length-take, drop-of-length-le, drop-cons, drop-drop, take-all}
 use Rattle.rules.specs.Bytes.{if_then_else_, newline}
 use Rattle.rules.specs.Layout.{parts}
 use Rattle.rules.specs.Lines.{part, new-line, later, text-ops}

@@ -1,11 +1,5 @@
 -- A node by its tag, an indented block, and the loops over fragments and nodes.
-use mathlib.Core.Path.{_≡_, refl}
-use mathlib.Core.List.{List, [], _++_}
-use mathlib.Core.Bool.{Bool, true, false}
-use Prim.Native.Nat.{ℕ, zero, suc, _-_, _≤_}
-use native.Mathlib.Omega.{arith}
-use lib.ListN.{length, getD, take, drop}
-use borrow.Author.Tests.{ne-eqb, le-leb}
+use Rattle.rules.proofs.Basics.{_≡_, refl, List, [], _++_, Bool, true, false, ℕ, zero, suc, _-_, _≤_, arith, length, getD, take, drop, ne-eqb, le-leb}
 use Rattle.lines.specs.Said.{break-of, operation}
 use Rattle.lines.specs.declared.Break.the-variants as Break
 use Rattle.lines.specs.declared.LineOp.the-variants as Op

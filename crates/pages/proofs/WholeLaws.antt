@@ -1,12 +1,5 @@
 -- The page of a whole file: what is refused, how long it is, and what is written.
-use mathlib.Core.Path.{_≡_, refl, sym, ap, subst, _∙_}
-use mathlib.Core.List.{List, [], _++_, append-nil, append-assoc}
-use mathlib.Core.Bool.{false}
-use Prim.Native.Nat.{ℕ, _<_, _≤_}
-use native.Mathlib.Omega.{arith}
-use lib.Dec.{leb}
-use lib.ListN.{length}
-use borrow.Author.Tests.{le-leb, lt-leb}
+use Rattle.rules.proofs.Basics.{_≡_, refl, sym, ap, subst, _∙_, List, [], _++_, append-nil, append-assoc, false, ℕ, _<_, _≤_, arith, leb, length, le-leb, lt-leb}
 use Rattle.rules.specs.Bytes.{newline}
 use Rattle.rules.specs.declared.Refusal.{Refusal}
 use Rattle.rules.specs.declared.Answer.{Answer}

@@ -1,7 +1,5 @@
 -- No second answer satisfies the contracts of this crate.
-use mathlib.Core.Path.{_≡_, sym, _∙_}
-use mathlib.Core.List.{List}
-use Prim.Native.Nat.{ℕ}
+use Rattle.rules.proofs.Basics.{_≡_, sym, _∙_, List, ℕ}
 use Rattle.parts.specs.Walk.{Ends, Is}
 
 pub ends-unique : {s : List ℕ} {at r u : ℕ} → Ends s at r → Ends s at u → r ≡ u

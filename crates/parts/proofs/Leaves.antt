@@ -1,12 +1,5 @@
 -- A good leaf is one field, and a good block has room for what is in it.
-use mathlib.Core.Path.{_≡_, refl}
-use mathlib.Core.List.{List}
-use mathlib.Core.Bool.{false, _&&_}
-use Prim.Native.Nat.{ℕ, zero, suc, _+_, _<_}
-use native.Mathlib.Omega.{arith}
-use lib.Dec.{leb, eqb}
-use lib.ListN.{length}
-use borrow.Author.Tests.{leb-false}
+use Rattle.rules.proofs.Basics.{_≡_, refl, List, false, _&&_, ℕ, zero, suc, _+_, _<_, arith, leb, eqb, length, leb-false}
 use Rattle.rules.specs.Walk.{Fields, in-fragment, is-block}
 use Rattle.rules.specs.Tree.{Leaf, text, anchor, space, force, if-block, Kind, indented, flexible}
 use Rattle.rules.specs.Encode.{field, encode-fields, leaf-fields, block-tag}

@@ -1,10 +1,5 @@
 -- The first field of bytes that begin with one.
-use mathlib.Core.Path.{_≡_, sym, _∙_}
-use mathlib.Core.List.{List, _++_}
-use Prim.Native.Nat.{ℕ, suc, _+_, _<_}
-use native.Mathlib.Omega.{arith}
-use lib.ListN.{length, length-append}
-use lib.Seq.{take-at, drop-at}
+use Rattle.rules.proofs.Basics.{_≡_, sym, _∙_, List, _++_, ℕ, suc, _+_, _<_, arith, length, length-append, take-at, drop-at}
 use Rattle.rules.specs.Encode.{field}
 use Rattle.fields.proofs.Encoded.{value-here}
 use Rattle.parts.specs.Walk.{part, span, here, rest, walk, fold}

@@ -1,11 +1,6 @@
 -- Where a field ends.
-use mathlib.Core.Path.{_≡_}
-use mathlib.Core.List.{List}
-use Prim.Native.Nat.{ℕ, _+_, _-_, _*_, _<_, _≤_}
-use native.Mathlib.Nat.{le-of-lt}
-use native.Mathlib.Omega.{arith}
-use lib.ListN.{length, getD, take, drop, length-drop}
-use lib.Seq.{getD-drop, take-all}
+use Rattle.rules.proofs.Basics.{_≡_, List, ℕ, _+_, _-_, _*_, _<_, _≤_, le-of-lt, arith, length, getD, take, drop, length-drop, take-all}
+use lib.Seq.{getD-drop}
 use Rattle.parts.specs.Walk.{span, Ends}
 
 pub span-le : (s : List ℕ) → span s ≤ length s

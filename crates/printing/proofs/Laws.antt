@@ -1,11 +1,5 @@
 -- What is left where a layout is accepted, where it is refused, and of the whole input.
-use mathlib.Core.Path.{_≡_, refl, ap}
-use mathlib.Core.List.{List, [], _++_, append-nil}
-use Prim.Native.Nat.{ℕ, _+_, _*_, _-_, _≤_}
-use native.Mathlib.Omega.{arith}
-use lib.ListN.{length, getD, take, drop, length-drop, drop-of-length-le}
-use lib.Seq.{take-all}
-use borrow.Author.Tests.{le-leb}
+use Rattle.rules.proofs.Basics.{_≡_, refl, ap, List, [], _++_, append-nil, ℕ, _+_, _*_, _-_, _≤_, arith, length, getD, take, drop, length-drop, drop-of-length-le, take-all, le-leb}
 use Rattle.rules.specs.declared.Answer.{Answer}
 use Rattle.rules.specs.declared.Answer.the-variants.{Done, Refused}
 use Rattle.rules.specs.declared.Refusal.{Refusal}

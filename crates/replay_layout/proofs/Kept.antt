@@ -1,9 +1,5 @@
 -- A part of the batch is laid out in place: the batch stays as long as it was.
-use mathlib.Core.Path.{_≡_}
-use mathlib.Core.List.{List, _++_}
-use Prim.Native.Nat.{ℕ, _-_, _≤_}
-use native.Mathlib.Omega.{arith}
-use lib.ListN.{length, take, drop, length-drop, length-take, length-append}
+use Rattle.rules.proofs.Basics.{_≡_, List, _++_, ℕ, _-_, _≤_, arith, length, take, drop, length-drop, length-take, length-append}
 
 -- ys stands in the place of the bytes from f to e
 pub kept : (s : List ℕ) {f e : ℕ} {A : Type 0} {a : A} {ys : List ℕ} {x : A × List ℕ} → (a, ys) ≡ x → f ≤ e → e ≤ length s → length ys ≡ length (take (e - f) (drop f s))

@@ -1,9 +1,5 @@
 -- A part of the page is lent from its start: the page stays as long as it was.
-use mathlib.Core.Path.{_≡_}
-use mathlib.Core.List.{List, _++_}
-use Prim.Native.Nat.{ℕ, _≤_}
-use native.Mathlib.Omega.{arith}
-use lib.ListN.{length, take, drop, length-take, length-drop, length-append}
+use Rattle.rules.proofs.Basics.{_≡_, List, _++_, ℕ, _≤_, arith, length, take, drop, length-take, length-drop, length-append}
 
 pub taken : (page : List ℕ) {n : ℕ} → n ≤ length page → n ≡ length (take n page)
 taken page {n} h = omega (arith, length-take n page)

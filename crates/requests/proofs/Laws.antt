@@ -1,12 +1,5 @@
 -- The request at a place, by what is known of the lengths, and where its file stands.
-use mathlib.Core.Path.{_≡_, refl, sym, _∙_}
-use mathlib.Core.List.{List}
-use mathlib.Core.Bool.{Bool, true, false}
-use Prim.Native.Nat.{ℕ, _+_, _<_, _≤_}
-use native.Mathlib.Omega.{arith}
-use lib.Dec.{leb}
-use lib.ListN.{length, getD}
-use borrow.Author.Tests.{leb-true, le-leb, lt-leb}
+use Rattle.rules.proofs.Basics.{_≡_, refl, sym, _∙_, List, Bool, true, false, ℕ, _+_, _<_, _≤_, arith, leb, length, getD, leb-true, le-leb, lt-leb}
 use Rattle.rules.specs.Bytes.{if_then_else_}
 use Rattle.requests.specs.declared.Request.{Request}
 use Rattle.requests.specs.declared.Request.the-variants.{File, NoMore}

@@ -1,12 +1,5 @@
 -- The rigid layout that the bytes of a good leaf give is the rules' one.
-use mathlib.Core.Path.{_≡_, refl, sym, ap, _∙_}
-use mathlib.Core.List.{List, [], _∷_, _++_}
-use mathlib.Core.Option.{Option, none, some}
-use mathlib.Core.Bool.{Bool, true, false}
-use Prim.Native.Nat.{ℕ, zero, suc, _+_, _≤_, _<_}
-use native.Mathlib.Omega.{arith}
-use lib.ListN.{length, length-append}
-use borrow.Author.Tests.{le-leb}
+use Rattle.rules.proofs.Basics.{_≡_, refl, sym, ap, _∙_, List, [], _∷_, _++_, Option, none, some, Bool, true, false, ℕ, zero, suc, _+_, _≤_, _<_, arith, length, length-append, le-leb}
 use Rattle.rules.specs.Bytes.{newline}
 use Rattle.rules.specs.Walk.{Fields, bytes, in-fragment, in-text, in-anchor, in-styles, holds}
 use Rattle.rules.specs.Tree.{Run, Leaf, text, anchor, space, force, if-block, styles-of}

@@ -1,10 +1,5 @@
 -- The fields of a 1, and the runs of a 2 one after the other.
-use mathlib.Core.Path.{_≡_, refl, sym, _∙_}
-use mathlib.Core.List.{List}
-use Prim.Native.Nat.{ℕ, _-_, _≤_, _<_}
-use native.Mathlib.Omega.{arith}
-use lib.ListN.{length, take, drop, length-drop}
-use borrow.Author.Tests.{eq-eqb, ne-eqb}
+use Rattle.rules.proofs.Basics.{_≡_, refl, sym, _∙_, List, ℕ, _-_, _≤_, _<_, arith, length, take, drop, length-drop, eq-eqb, ne-eqb}
 use Rattle.rules.specs.Layout.{Shape, Inline, byte-width, effective}
 use Rattle.fields.specs.declared.Field.{Field}
 use Rattle.fields.specs.declared.Field.the-variants.{Whole}

@@ -1,12 +1,7 @@
 -- A width by its product, and a tag that is no node's.
-use mathlib.Core.Path.{_≡_, sym}
-use mathlib.Core.List.{List}
-use Prim.Native.Nat.{ℕ, _*_, _≤_, _<_}
-use native.Mathlib.Omega.{arith}
-use native.Mathlib.Nat.{mul-le-mul-right}
+use Rattle.rules.proofs.Basics.{_≡_, sym, List, ℕ, _*_, _≤_, _<_, arith, mul-le-mul-right, ne-eqb}
 use mir.Syntax.{w64}
 use mir.Val.{Fits}
-use borrow.Author.Tests.{ne-eqb}
 use Rattle.rules.specs.Bytes.{cap}
 use Rattle.shapes.proofs.Appending.{cap-over}
 use Rattle.rules.specs.Layout.{Shape, Inline}

@@ -1,13 +1,5 @@
 -- What the walk accepts: good fields, whose encoding is the bytes that were read.
-use mathlib.Core.Path.{_≡_, refl, sym, _∙_, ap, subst}
-use mathlib.Core.List.{List, [], _∷_, _++_, map}
-use mathlib.Core.Option.{Option, none, some}
-use mathlib.Core.Bool.{true, false, _&&_}
-use Prim.Native.Nat.{ℕ, zero, suc, _+_, _*_, _-_, _/_, _%_, _≤_, _<_}
-use native.Mathlib.Omega.{arith}
-use lib.Dec.{leb}
-use lib.ListN.{length, take, drop, length-take, length-drop, take-append-drop}
-use borrow.Author.Tests.{leb-true, not-true}
+use Rattle.rules.proofs.Basics.{_≡_, refl, sym, _∙_, ap, subst, List, [], _∷_, _++_, map, Option, none, some, true, false, _&&_, ℕ, zero, suc, _+_, _*_, _-_, _/_, _%_, _≤_, _<_, arith, leb, length, take, drop, length-take, length-drop, take-append-drop, leb-true, not-true}
 use Rattle.rules.specs.Limits.{most-blocks}
 use Rattle.rules.specs.Bytes.{number, number-from}
 use Rattle.rules.specs.Result.{Result, accepted}

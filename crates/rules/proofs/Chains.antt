@@ -1,9 +1,5 @@
 -- A chain of steps that was accepted: each of its steps was.
-use mathlib.Core.Path.{_≡_, refl}
-use mathlib.Core.List.{List, [], _∷_}
-use mathlib.Core.Bool.{Bool, true, false}
-use Prim.Native.Nat.{ℕ}
-use native.Mathlib.Omega.{arith}
+use Rattle.rules.proofs.Basics.{_≡_, refl, List, [], _∷_, Bool, true, false, ℕ, arith}
 use Rattle.rules.specs.Result.{Result, refused, accepted, _>>=_, _>>_, need, Check, _or-refuse_, sound}
 use Rattle.rules.specs.Good.{AllHold}
 

@@ -1,14 +1,5 @@
 -- The places at which two files differ, and files that differ only where a 4 became a 3.
-use mathlib.Core.Path.{_≡_, refl, sym, _∙_, ap}
-use mathlib.Core.List.{List, [], _∷_, _++_}
-use mathlib.Core.Bool.{Bool, true, false}
-use mathlib.Core.Logic.{_⊎_, inl, ⊎-elim}
-use Prim.Native.Nat.{ℕ, zero, suc, _+_, _<_}
-use native.Mathlib.Nat.{add-zero}
-use native.Mathlib.Omega.{arith}
-use lib.Dec.{eqb}
-use lib.ListN.{length, getD}
-use borrow.Author.Tests.{eqb-true, eq-eqb, ne-eqb}
+use Rattle.rules.proofs.Basics.{_≡_, refl, sym, _∙_, ap, List, [], _∷_, _++_, Bool, true, false, _⊎_, inl, ⊎-elim, ℕ, zero, suc, _+_, _<_, add-zero, arith, eqb, length, getD, eqb-true, eq-eqb, ne-eqb}
 use Rattle.rules.specs.Bytes.{if_then_else_, has}
 use Rattle.rules.specs.Answers.{changed}
 use Rattle.rules.proofs.Chains.{no-path}

@@ -1,16 +1,9 @@
 -- Demand 3 on the rules. Two accepted files that are equal but for bytes inside texts, newlines at the same places, are one tree over places filled
 -- in two ways. So layout changes the same tags and leaves such files again, and one list of page bytes gives both plain pages; for HTML with & and
 -- < at the same places.
-use mathlib.Core.Path.{_≡_, refl, sym, _∙_, ap, ap₂, fun-ext}
-use mathlib.Core.List.{List, [], _∷_, map}
-use mathlib.Core.Bool.{Bool, true, false}
-use mathlib.Core.Logic.{inl, ⊎-elim}
-use Prim.Native.Nat.{ℕ, suc, _≤_, _<_}
-use native.Mathlib.Nat.{zero-add}
-use native.Mathlib.Omega.{arith}
-use lib.Dec.{leb, eqb}
-use lib.ListN.{length, getD, List·getD-eq-default}
-use borrow.Author.Tests.{leb-true, leb-false, le-leb}
+use Rattle.rules.proofs.Basics.{_≡_, refl, sym, _∙_, ap, ap₂, List, [], _∷_, map, Bool, true, false, inl, ⊎-elim, ℕ, suc, _≤_, _<_, zero-add, arith, leb, eqb, length, getD, leb-true, leb-false, le-leb}
+use mathlib.Core.Path.{fun-ext}
+use lib.ListN.{List·getD-eq-default}
 use Rattle.rules.specs.Bytes.{if_then_else_, has, newline}
 use Rattle.rules.specs.Result.{accepted, refused, _>>=_, _>>_, need}
 use Rattle.rules.specs.Walk.{check, content}

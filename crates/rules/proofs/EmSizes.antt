@@ -1,11 +1,5 @@
 -- Opacities and em sizes: each printed decimal is the shortest of its float, by document 01's rule, for every opacity and size that is accepted.
-use mathlib.Core.Path.{_≡_, refl, sym, ap, _∙_, subst}
-use mathlib.Core.Bool.{Bool, true, false, _&&_}
-use Prim.Native.Nat.{ℕ, zero, suc, _*_, _<_, _≤_}
-use native.Mathlib.Decide.{decLt}
-use native.Mathlib.Omega.{arith}
-use lib.Dec.{T, ltb, ltb→lt}
-use lib.IntN.{ℤ, pos, negsuc}
+use Rattle.rules.proofs.Basics.{_≡_, refl, sym, ap, _∙_, subst, Bool, true, false, _&&_, ℕ, zero, suc, _*_, _<_, _≤_, decLt, arith, T, ltb, ltb→lt, ℤ, pos, negsuc}
 use lib.Pow.{pow-pos}
 use lib.Ieee.{binary32, binary64, low}
 use lib.Ieee.Fits.{and-l, and-r}

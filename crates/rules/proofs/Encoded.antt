@@ -1,13 +1,5 @@
 -- The encoding of good fields is accepted, as those fields.
-use mathlib.Core.Path.{_≡_, refl}
-use mathlib.Core.List.{List, [], _∷_, _++_, map}
-use mathlib.Core.Bool.{true}
-use Prim.Native.Nat.{ℕ, zero, suc, _+_, _-_, _/_, _%_, _≤_}
-use native.Mathlib.Omega.{arith}
-use lib.Dec.{leb}
-use lib.ListN.{length, length-append}
-use lib.Seq.{take-at, drop-at}
-use borrow.Author.Tests.{le-leb}
+use Rattle.rules.proofs.Basics.{_≡_, refl, List, [], _∷_, _++_, map, true, ℕ, zero, suc, _+_, _-_, _/_, _%_, _≤_, arith, leb, length, length-append, take-at, drop-at, le-leb}
 use Rattle.rules.specs.Bytes.{number}
 use Rattle.rules.specs.Result.{accepted, _>>=_, _>>_, need}
 use Rattle.rules.specs.Walk.{Fields, end, bytes, inside, Holder, Content, front, valued, walk, complete, tags}

@@ -1,8 +1,5 @@
 -- Document 01's checked examples hold of the rules, and refused files are refused with number and place: each one statement over a list, computed.
-use mathlib.Core.Path.{_≡_, refl}
-use mathlib.Core.List.{map}
-use Prim.Native.Nat.{ℕ, _≤_}
-use borrow.Author.Tests.{le-leb}
+use Rattle.rules.proofs.Basics.{_≡_, refl, map, ℕ, _≤_, le-leb}
 use Rattle.rules.specs.Cases.{answer, examples}
 use Rattle.rules.specs.Result.{refused}
 use Rattle.rules.specs.Refusals.{answers, refusals}

@@ -1,14 +1,6 @@
 -- A file is accepted exactly when it is the encoding of a good tree: accepted gives that tree back and encoding it gives the file; the
 -- encoding of any good tree is accepted as that tree.
-use mathlib.Core.Path.{_≡_, refl, sym, _∙_, ap, ap₂, subst}
-use mathlib.Core.List.{List, [], _∷_}
-use mathlib.Core.Option.{Option, none, some}
-use mathlib.Core.Logic.{_↔_}
-use mathlib.Core.Bool.{true, false}
-use Prim.Native.Nat.{ℕ}
-use native.Mathlib.Nat.{le-refl}
-use lib.ListN.{length}
-use borrow.Author.Tests.{leb-true, le-leb}
+use Rattle.rules.proofs.Basics.{_≡_, refl, sym, _∙_, ap, ap₂, subst, List, [], _∷_, Option, none, some, _↔_, true, false, ℕ, le-refl, length, leb-true, le-leb}
 use Rattle.rules.specs.Limits.{most-bytes}
 use Rattle.rules.specs.Bytes.{has}
 use Rattle.rules.specs.Result.{accepted, need, _>>_, _>>=_}

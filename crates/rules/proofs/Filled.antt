@@ -1,12 +1,5 @@
 -- What does not depend on the bytes that fill a tree: lengths, the tags that layout changes, and where texts stand.
-use mathlib.Core.Path.{_≡_, refl, sym, _∙_, ap₂}
-use mathlib.Core.List.{List, [], _∷_, _++_, map}
-use mathlib.Core.Option.{Option, none, some}
-use mathlib.Core.Bool.{Bool, false}
-use Prim.Native.Nat.{ℕ, _+_}
-use native.Mathlib.Omega.{arith}
-use lib.Dec.{eqb}
-use lib.ListN.{length, length-append, length-map}
+use Rattle.rules.proofs.Basics.{_≡_, refl, sym, _∙_, ap₂, List, [], _∷_, _++_, map, Option, none, some, Bool, false, ℕ, _+_, arith, eqb, length, length-append, length-map}
 use Rattle.rules.specs.Walk.{Fields}
 use Rattle.rules.specs.Tree.{Run, Leaf, text, anchor, space, force, if-block, Frag, stop, leaf, block, Frags, none-left, frag}
 use Rattle.rules.specs.Encode.{field, encode-fields, frag-fields, frags-fields, leaf-fields, run-fields, runs-fields, anchor-tag, block-tag, encode}

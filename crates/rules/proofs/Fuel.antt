@@ -1,11 +1,5 @@
 -- Fuel: a walk that may take as many fields as there are bytes takes all of them, so that its clause for no fuel is met at the end alone.
-use mathlib.Core.Path.{_≡_, refl, sym, _∙_, ap}
-use mathlib.Core.List.{List, [], _∷_, map}
-use mathlib.Core.Option.{Option, none, some}
-use Prim.Native.Nat.{ℕ, zero, suc, _+_, _-_, _≤_}
-use native.Mathlib.Omega.{arith}
-use lib.ListN.{length, take, drop, length-take, length-drop}
-use borrow.Author.Tests.{leb-true}
+use Rattle.rules.proofs.Basics.{_≡_, refl, sym, _∙_, ap, List, [], _∷_, map, Option, none, some, ℕ, zero, suc, _+_, _-_, _≤_, arith, length, take, drop, length-take, length-drop, leb-true}
 use Rattle.rules.specs.Bytes.{number}
 use Rattle.rules.specs.Result.{Result, refused, accepted, _>>=_, _>>_, sound}
 use Rattle.rules.specs.Walk.{Fields, Holder, Field, Value, of-fields, put, front, Content, valued, walk, holds, complete, tags}

@@ -1,6 +1,5 @@
 -- What layout changes: some 4s become 3s, and nothing else.
-use mathlib.Core.Bool.{Bool, true, false}
-use Prim.Native.Nat.{ℕ}
+use Rattle.rules.proofs.Basics.{Bool, true, false, ℕ}
 use Rattle.rules.specs.Tree.{Leaf, Kind, indented, flexible, Frag, stop, leaf, block, Frags, none-left, frag}
 use Rattle.rules.specs.Layout.{Shape, Inline, Block, kept-inline, chosen, layout}
 use Rattle.rules.specs.Ahead.{lay, lay-all}

@@ -1,11 +1,5 @@
 -- The file that layout leaves: of the same length, accepted, as the tree laid out.
-use mathlib.Core.Path.{_≡_, refl, sym, subst}
-use mathlib.Core.List.{List, _++_}
-use mathlib.Core.Bool.{Bool}
-use mathlib.Core.Option.{some}
-use Prim.Native.Nat.{ℕ, _+_}
-use native.Mathlib.Omega.{arith}
-use lib.ListN.{length, length-append}
+use Rattle.rules.proofs.Basics.{_≡_, refl, sym, subst, List, _++_, Bool, some, ℕ, _+_, arith, length, length-append}
 use Rattle.rules.specs.Result.{accepted}
 use Rattle.rules.specs.Walk.{Fields, bytes, inside, end, in-fragment, in-block, holds, allowed, right-length, is-block, complete}
 use Rattle.rules.specs.Tree.{Leaf, text, anchor, space, force, if-block, Kind, indented, flexible, Frag, Frags}

@@ -1,10 +1,5 @@
 -- Naturality of layout: the layout of a mapped tree is the mapped layout, as long as newlines stand alike.
-use mathlib.Core.Path.{_≡_, refl, sym, ap, _∙_}
-use mathlib.Core.List.{List, [], _∷_, map}
-use mathlib.Core.Option.{Option, none}
-use mathlib.Core.Bool.{Bool, true, false}
-use Prim.Native.Nat.{ℕ, _*_, _-_, max}
-use lib.ListN.{length-map}
+use Rattle.rules.proofs.Basics.{_≡_, refl, sym, ap, _∙_, List, [], _∷_, map, Option, none, Bool, true, false, ℕ, _*_, _-_, max, length-map}
 use Rattle.rules.specs.Limits.{indentation}
 use Rattle.rules.specs.Bytes.{if_then_else_}
 use Rattle.rules.specs.Walk.{Fields}

@@ -1,4 +1,5 @@
 -- The theorems about document 01's rules.
+pub mod Basics
 pub mod Open
 pub mod MaskExample
 pub mod Examples

@@ -1,10 +1,5 @@
 -- Naturality of the items of a page: those of a mapped tree are the mapped items, as long as newlines stand alike.
-use mathlib.Core.Path.{_≡_, refl, ap}
-use mathlib.Core.List.{List, [], _∷_, map}
-use mathlib.Core.Option.{Option, none, some}
-use mathlib.Core.Bool.{Bool, true, false}
-use Prim.Native.Nat.{ℕ}
-use lib.Dec.{ltb}
+use Rattle.rules.proofs.Basics.{_≡_, refl, ap, List, [], _∷_, map, Option, none, some, Bool, true, false, ℕ, ltb}
 use Rattle.rules.specs.Bytes.{if_then_else_}
 use Rattle.rules.specs.Walk.{Fields}
 use Rattle.rules.specs.Tree.{Run, Leaf, text, anchor, space, force, if-block, indented, flexible, Frag, stop, leaf, block, Frags, none-left, frag}

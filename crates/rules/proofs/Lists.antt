@@ -1,9 +1,5 @@
 -- Lists: what `map` does to them.
-use mathlib.Core.Path.{_≡_, refl, ap}
-use mathlib.Core.List.{List, [], _∷_, _++_, map}
-use mathlib.Core.Bool.{Bool, true, false}
-use Prim.Native.Nat.{ℕ, zero, suc}
-use lib.ListN.{take, drop}
+use Rattle.rules.proofs.Basics.{_≡_, refl, ap, List, [], _∷_, _++_, map, Bool, true, false, ℕ, zero, suc, take, drop}
 use Rattle.rules.specs.Bytes.{if_then_else_}
 
 pub map-append : {A B : Type 0} (f : A → B) (l m : List A) → map f (l ++ m) ≡ map f l ++ map f m

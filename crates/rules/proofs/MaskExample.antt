@@ -1,7 +1,5 @@
 -- Masks and a page's list, computed: a styled text of five bytes, a 7, and an anchor with a text.
-use mathlib.Core.Path.{_≡_, refl}
-use mathlib.Core.List.{List, [], _∷_}
-use Prim.Native.Nat.{ℕ}
+use Rattle.rules.proofs.Basics.{_≡_, refl, List, [], _∷_, ℕ}
 use Rattle.rules.specs.Result.{accepted}
 use Rattle.rules.specs.Lines.{made, copied}
 use Rattle.rules.specs.Mask.{newlines, newlines-and-escapes, mask}

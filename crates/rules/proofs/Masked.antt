@@ -1,14 +1,5 @@
 -- Every accepted file and its mask are two files as in demand 3: the mask is accepted, and is equal but for bytes inside texts.
-use mathlib.Core.Path.{_≡_, refl, sym, _∙_, ap}
-use mathlib.Core.List.{List, [], _∷_, map}
-use mathlib.Core.Bool.{Bool, true, false, _||_}
-use mathlib.Core.Logic.{inr}
-use Prim.Native.Nat.{ℕ, zero, suc, _<_}
-use native.Mathlib.Nat.{zero-add}
-use native.Mathlib.Omega.{arith}
-use lib.Dec.{eqb}
-use lib.ListN.{length, getD, replicate}
-use borrow.Author.Tests.{eqb-true, le-leb}
+use Rattle.rules.proofs.Basics.{_≡_, refl, sym, _∙_, ap, List, [], _∷_, map, Bool, true, false, _||_, inr, ℕ, zero, suc, _<_, zero-add, arith, eqb, length, getD, replicate, eqb-true, le-leb}
 use Rattle.rules.specs.Bytes.{if_then_else_, has}
 use Rattle.rules.specs.Utf8.{utf8, utf8-after, following}
 use Rattle.rules.specs.Result.{accepted, _>>=_}

@@ -1,10 +1,6 @@
 -- Nearest patterns: magnitudes rise with the pattern, nearest is a matter of the two neighbours, and no second pattern is nearest.
-use mathlib.Core.Path.{_≡_, refl, _∙_, subst}
-use Prim.Native.Nat.{ℕ, zero, suc, _+_, _-_, _*_, _/_, _%_, _^_, _≤_, _<_}
-use native.Mathlib.Nat.{add-suc, zero-mul, le-trans, le-refl, le-of-lt, add-zero, suc-mul, mul-le-mul-right, mul-lt-mul-of-pos-right, pow-suc, div-add-mod', mod-lt}
-use native.Mathlib.Decide.{decLt}
-use native.Mathlib.Omega.{arith}
-use lib.Dec.{T, leb→le, le→leb}
+use Rattle.rules.proofs.Basics.{_≡_, refl, _∙_, subst, ℕ, zero, suc, _+_, _-_, _*_, _/_, _%_, _^_, _≤_, _<_, le-trans, le-refl, le-of-lt, add-zero, suc-mul, mul-le-mul-right, mul-lt-mul-of-pos-right, pow-suc, div-add-mod', mod-lt, decLt, arith, T, leb→le, le→leb}
+use native.Mathlib.Nat.{add-suc, zero-mul}
 use lib.Pow.{pow-pos}
 use lib.Arith.{digits-div, digits-mod}
 use lib.Ieee.{Format, binary32, binary64, low, hid}

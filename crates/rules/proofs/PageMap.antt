@@ -1,8 +1,5 @@
 -- Naturality of the pages: the plain page, HTML body and document of a mapped tree are the mapped ones; HTML asks that & and < stand alike too.
-use mathlib.Core.Path.{_≡_, refl, ap}
-use mathlib.Core.List.{List, [], _∷_, map}
-use mathlib.Core.Bool.{Bool, true, false}
-use Prim.Native.Nat.{ℕ}
+use Rattle.rules.proofs.Basics.{_≡_, refl, ap, List, [], _∷_, map, Bool, true, false, ℕ}
 use Rattle.rules.specs.Bytes.{ascii}
 use Rattle.rules.specs.Tree.{Frag}
 use Rattle.rules.specs.Lines.{Item, char, marked, Mark, push, pop, open-anchor, close-anchor, Out, made, copied}

@@ -1,11 +1,5 @@
 -- A file read by its places: the tree over places, read through the file, is the file's tree, and a page's list copies from the file's places alone.
-use mathlib.Core.Path.{_≡_, refl, sym, _∙_, ap, ap₂, subst}
-use mathlib.Core.List.{List, [], _∷_, _++_, map}
-use mathlib.Core.Bool.{Bool, false}
-use Prim.Native.Nat.{ℕ, zero, suc, _+_, _<_, _≤_}
-use native.Mathlib.Nat.{zero-add, add-zero}
-use native.Mathlib.Omega.{arith}
-use lib.ListN.{length, getD, replicate, length-map}
+use Rattle.rules.proofs.Basics.{_≡_, refl, sym, _∙_, ap, ap₂, subst, List, [], _∷_, _++_, map, Bool, false, ℕ, zero, suc, _+_, _<_, _≤_, zero-add, add-zero, arith, length, getD, replicate, length-map}
 use Rattle.rules.specs.Bytes.{newline}
 use Rattle.rules.specs.Result.{Result, refused, accepted}
 use Rattle.rules.specs.Walk.{Fields, end, bytes, inside, in-fragment, check, content}

@@ -1,14 +1,5 @@
 -- Printed numbers: digits only, no leading zeros, one point at most; and a printed decimal reads back as that decimal.
-use mathlib.Core.Path.{_≡_, refl, sym, _∙_, ap, ap₂}
-use mathlib.Core.List.{List, [], _∷_, _++_, append-nil, append-assoc}
-use mathlib.Core.Bool.{Bool, true, false}
-use Prim.Native.Nat.{ℕ, zero, suc, _+_, _-_, _*_, _/_, _%_, _^_, _≤_, _<_}
-use native.Mathlib.Nat.{le-refl, pow-suc, div-div-eq-div-mul, mul-comm, div-one}
-use native.Mathlib.Decide.{decLt}
-use native.Mathlib.Omega.{arith}
-use lib.Dec.{ltb, eqb}
-use lib.ListN.{length, length-append}
-use borrow.Author.Tests.{lt-ltb, le-ltb, ne-eqb}
+use Rattle.rules.proofs.Basics.{_≡_, refl, sym, _∙_, ap, ap₂, List, [], _∷_, _++_, append-nil, append-assoc, Bool, true, false, ℕ, zero, suc, _+_, _-_, _*_, _/_, _%_, _^_, _≤_, _<_, le-refl, pow-suc, div-div-eq-div-mul, mul-comm, div-one, decLt, arith, ltb, eqb, length, length-append, lt-ltb, le-ltb, ne-eqb}
 use Rattle.rules.specs.Bytes.{if_then_else_}
 use Rattle.rules.specs.Digits.{digit, digits-in, digits, last-digits, Decimal, fraction, sign, decimal-text}
 

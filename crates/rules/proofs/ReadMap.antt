@@ -1,11 +1,5 @@
 -- Naturality of reading, for any content: the tree of a mapped file is the mapped tree, and a refusal stays what it is.
-use mathlib.Core.Path.{_≡_, refl, _∙_, ap, ap₂}
-use mathlib.Core.List.{List, [], _∷_, map}
-use mathlib.Core.Option.{Option, none, some, Option·map}
-use mathlib.Core.Bool.{Bool, true, false}
-use Prim.Native.Nat.{ℕ, zero, suc, _+_}
-use lib.Dec.{eqb}
-use lib.ListN.{length, length-map}
+use Rattle.rules.proofs.Basics.{_≡_, refl, _∙_, ap, ap₂, List, [], _∷_, map, Option, none, some, Option·map, Bool, true, false, ℕ, zero, suc, _+_, eqb, length, length-map}
 use Rattle.rules.specs.Bytes.{if_then_else_, has}
 use Rattle.rules.specs.Result.{Result, refused, accepted, _>>=_, _>>_}
 use Rattle.rules.specs.Walk.{Fields, end, bytes, inside, Holder, in-fragment, Field, Value, of-bytes, of-fields, put, Content, front, valued, walk, check, tags, holds}

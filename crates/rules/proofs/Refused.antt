@@ -1,14 +1,5 @@
 -- Refusals: a refused file's place is at most its length, and its number is one of the walk's.
-use mathlib.Core.Path.{_≡_, refl, sym}
-use mathlib.Core.List.{List, [], _∷_, map}
-use mathlib.Core.Option.{Option, none, some}
-use mathlib.Core.Bool.{Bool, true, false, _||_}
-use Prim.Native.Nat.{ℕ, zero, suc, _+_, _≤_, _<_}
-use native.Mathlib.Nat.{le-refl}
-use native.Mathlib.Omega.{arith}
-use lib.Dec.{leb, eqb}
-use lib.ListN.{length, take}
-use borrow.Author.Tests.{leb-true, leb-false}
+use Rattle.rules.proofs.Basics.{_≡_, refl, sym, List, [], _∷_, map, Option, none, some, Bool, true, false, _||_, ℕ, zero, suc, _+_, _≤_, _<_, le-refl, arith, leb, eqb, length, take, leb-true, leb-false}
 use Rattle.rules.specs.Limits.{most-bytes}
 use Rattle.rules.specs.Bytes.{if_then_else_}
 use Rattle.rules.specs.Result.{Result, refused, accepted, _>>=_, _>>_, need, Check, _or-refuse_, sound}

@@ -1,16 +1,6 @@
 -- Bytes outside texts decide how a file is read: a second reading of it that has the same bytes outside texts gives the same fields and the same
 -- tree, if it is accepted at all, or if texts are as asked by it.
-use mathlib.Core.Path.{_≡_, refl, sym, _∙_, ap, ap₂, subst}
-use mathlib.Core.List.{List, [], _∷_, _++_, map}
-use mathlib.Core.Option.{Option, none, some, Option·map}
-use mathlib.Core.Bool.{Bool, true, false, and-eq-true-iff}
-use mathlib.Core.Logic.{_⊎_, inl, inr}
-use Prim.Native.Nat.{ℕ, zero, suc, _+_, _≤_, _<_}
-use native.Mathlib.Nat.{le-refl}
-use native.Mathlib.Omega.{arith}
-use lib.Dec.{leb, ltb, eqb}
-use lib.ListN.{length, take, drop, replicate, length-append, length-replicate, take-append-drop}
-use borrow.Author.Tests.{leb-true, eqb-true, ne-eqb}
+use Rattle.rules.proofs.Basics.{_≡_, refl, sym, _∙_, ap, ap₂, subst, List, [], _∷_, _++_, map, Option, none, some, Option·map, Bool, true, false, and-eq-true-iff, _⊎_, inl, inr, ℕ, zero, suc, _+_, _≤_, _<_, le-refl, arith, leb, ltb, eqb, length, take, drop, replicate, length-append, length-replicate, take-append-drop, leb-true, eqb-true, ne-eqb}
 use Rattle.rules.specs.Limits.{most-bytes, first-style, last-style}
 use Rattle.rules.specs.Bytes.{if_then_else_, within, has, number}
 use Rattle.rules.specs.Result.{Result, accepted, _>>=_, _>>_, need, Check, sound}

@@ -1,15 +1,8 @@
 -- The shortest decimal: what the search finds is one, for every finite pattern of both widths, and no second decimal is.
-use mathlib.Core.Path.{_≡_, refl, sym, ap, _∙_, subst}
-use mathlib.Core.Bool.{Bool, true, false}
-use mathlib.Core.Option.{Option, none, some}
-use Prim.Native.Nat.{ℕ, zero, suc, _+_, _*_, _/_, _^_, _≤_, _<_, zero-le}
-use native.Mathlib.Nat.{one-le-pow, suc-mul, mul-le-mul-right, div-add-mod', mod-lt, pow-suc, mul-assoc, mul-div-cancel, zero-add}
-use native.Mathlib.Decide.{decLe, decLt}
-use native.Mathlib.Omega.{arith}
-use lib.Dec.{T}
+use Rattle.rules.proofs.Basics.{_≡_, refl, sym, ap, _∙_, subst, Bool, true, false, Option, none, some, ℕ, zero, suc, _+_, _*_, _/_, _^_, _≤_, _<_, zero-le, suc-mul, mul-le-mul-right, div-add-mod', mod-lt, pow-suc, mul-assoc, zero-add, decLe, decLt, arith, T, leb-true, leb-false, ltb-true, ltb-false, le-leb, lt-ltb}
+use native.Mathlib.Nat.{one-le-pow, mul-div-cancel}
 use lib.Pow.{pow-pos}
 use lib.Ieee.{Format, low}
-use borrow.Author.Tests.{leb-true, leb-false, ltb-true, ltb-false, le-leb, lt-ltb}
 use Rattle.rules.specs.Float.{mag, infinite, ReadsBack, off, AtMost, Shortest}
 use Rattle.rules.specs.Search.{nearest, floor, prefers-lower, choice, at-places, Fraction, found, from-places, shortest}
 use Rattle.rules.proofs.Nearest.{Within, within-of, within-test, within→nearest, nearest→within, own-low, own-high}

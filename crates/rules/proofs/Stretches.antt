@@ -1,13 +1,5 @@
 -- Layout with a stretch ahead (`Ahead`), which the code follows, is the layout of `Layout`, on every fragment.
-use mathlib.Core.Path.{_≡_, refl, ap, ap₂, _∙_}
-use mathlib.Core.List.{List, [], _∷_, _++_, append-nil}
-use mathlib.Core.Option.{Option, none}
-use mathlib.Core.Bool.{Bool, true, false}
-use Prim.Native.Nat.{ℕ, _+_, _*_, _≤_, min}
-use native.Mathlib.Omega.{arith}
-use lib.Dec.{leb}
-use lib.ListN.{length}
-use borrow.Author.Tests.{leb-true, leb-false}
+use Rattle.rules.proofs.Basics.{_≡_, refl, ap, ap₂, _∙_, List, [], _∷_, _++_, append-nil, Option, none, Bool, true, false, ℕ, _+_, _*_, _≤_, min, arith, leb, length, leb-true, leb-false}
 use Rattle.rules.specs.Limits.{most-tenths}
 use Rattle.rules.specs.Bytes.{if_then_else_, cap}
 use Rattle.rules.specs.Walk.{Fields}

@@ -1,15 +1,7 @@
 -- The tree of good fields loses nothing: its fields are those fields.
-use mathlib.Core.Path.{_≡_, refl, sym, _∙_, ap, ap₂, subst, subst⁻¹}
-use mathlib.Core.List.{List, [], _∷_}
-use mathlib.Core.Option.{none, some}
-use mathlib.Core.Logic.{dite, _⊎_, inl, inr, ⊎-elim}
+use Rattle.rules.proofs.Basics.{_≡_, refl, sym, _∙_, ap, ap₂, subst, subst⁻¹, List, [], _∷_, none, some, _⊎_, inl, inr, ⊎-elim, Bool, true, false, _&&_, _||_, and-eq-true-iff, ℕ, suc, _≤_, _<_, arith, leb, eqb, length, leb-true, eqb-true, ne-eqb}
+use mathlib.Core.Logic.{dite}
 use native.Mathlib.Decide.{ℕ-discrete}
-use mathlib.Core.Bool.{Bool, true, false, _&&_, _||_, and-eq-true-iff}
-use Prim.Native.Nat.{ℕ, suc, _≤_, _<_}
-use native.Mathlib.Omega.{arith}
-use lib.Dec.{leb, eqb}
-use lib.ListN.{length}
-use borrow.Author.Tests.{leb-true, eqb-true, ne-eqb}
 use Rattle.rules.specs.Bytes.{if_then_else_, has}
 use Rattle.rules.specs.Walk.{Fields, end, bytes, inside, Holder, in-fragment, in-block, in-text, in-anchor, Content, content, complete, tags, holds, allowed, right-length}
 use Rattle.rules.specs.Tree.{Run, space, force, if-block, frag-of, frags-of, run-of, runs-of, anchor-of, map-fields, bytes-of, fields-of, or-empty}

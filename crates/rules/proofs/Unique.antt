@@ -1,11 +1,6 @@
 -- No second outcome: an answer is fixed by what it says, so two outcomes that satisfy a public contract are equal, the lent bytes with them; and the
 -- number that a C name answers says the answer.
-use mathlib.Core.Path.{_≡_, refl, sym, _∙_, ap}
-use mathlib.Core.List.{List, [], _∷_}
-use Prim.Native.Nat.{ℕ, _+_, _-_, _*_, _/_, _%_, _≤_}
-use native.Mathlib.Omega.{arith}
-use lib.ListN.{getD}
-use borrow.Author.Tests.{ne-eqb}
+use Rattle.rules.proofs.Basics.{_≡_, refl, sym, _∙_, ap, List, [], _∷_, ℕ, _+_, _-_, _*_, _/_, _%_, _≤_, arith, getD, ne-eqb}
 use Rattle.rules.specs.declared.Refusal.{Refusal}
 use Rattle.rules.specs.declared.Refusal.the-variants.{TooLong, TooWide, Cut, WrongTag, WrongLength, TooDeep, NotUtf8, BadStyle, QuoteInAnchor, PageTooShort}
 use Rattle.rules.specs.declared.Answer.{Answer}

@@ -1,16 +1,8 @@
 -- The file check's tests of opacities and sizes are document 01's words: each passes exactly where the value is one of those that are accepted.
-use mathlib.Core.Path.{_≡_, refl, sym, _∙_, subst}
-use mathlib.Core.Logic.{_↔_, inl, inr, ⊎-elim}
-use mathlib.Core.Bool.{Bool, true, false, _&&_, _||_, or-true, or-false, false≢true}
-use Prim.Native.Nat.{ℕ, suc, _*_, _-_, _^_, _≤_}
+use Rattle.rules.proofs.Basics.{_≡_, refl, sym, _∙_, subst, _↔_, inl, inr, ⊎-elim, Bool, true, false, _&&_, _||_, or-true, or-false, false≢true, ℕ, suc, _*_, _-_, _^_, _≤_, decLe, arith, T, leb, ltb, eqb, pos, negsuc, leb-true, ltb-true, ltb-false, eqb-true, le-leb, lt-leb}
 use native.Mathlib.Nat.{mul-le-mul-left}
-use native.Mathlib.Decide.{decLe}
-use native.Mathlib.Omega.{arith}
-use lib.Dec.{T, leb, ltb, eqb}
-use lib.IntN.{pos, negsuc}
 use lib.Ieee.{Format, binary32, low}
 use lib.Signed.{leZ, leZ-yes}
-use borrow.Author.Tests.{leb-true, ltb-true, ltb-false, eqb-true, le-leb, lt-leb}
 use Rattle.rules.specs.Bytes.{if_then_else_}
 use Rattle.rules.specs.Digits.{signed}
 use Rattle.rules.specs.Float.{mag}

@@ -1,7 +1,5 @@
 -- Capped sums.
-use mathlib.Core.Path.{_≡_}
-use Prim.Native.Nat.{ℕ, _≤_, _<_}
-use borrow.Author.Tests.{le-leb, lt-leb}
+use Rattle.rules.proofs.Basics.{_≡_, ℕ, _≤_, _<_, le-leb, lt-leb}
 use Rattle.rules.specs.Bytes.{cap}
 
 pub cap-under : (n : ℕ) → n ≤ 65_535 → cap n ≡ n

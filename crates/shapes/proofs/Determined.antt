@@ -1,10 +1,5 @@
 -- No second answer satisfies the contracts of this crate, up to 2^33: from there on a number says what a smaller one says.
-use mathlib.Core.Path.{_≡_, refl, sym, _∙_, ap}
-use mathlib.Core.Bool.{Bool, true, false}
-use Prim.Native.Nat.{ℕ, _+_, _*_, _/_, _%_, _^_, _<_}
-use native.Mathlib.Omega.{arith}
-use lib.Dec.{leb}
-use borrow.Author.Tests.{leb-true, leb-false}
+use Rattle.rules.proofs.Basics.{_≡_, refl, sym, _∙_, ap, Bool, true, false, ℕ, _+_, _*_, _/_, _%_, _^_, _<_, arith, leb, leb-true, leb-false}
 use Rattle.rules.specs.Layout.{Shape, Inline, Block}
 use Rattle.shapes.specs.Shapes.{is-block, first, second, of-widths, shape}
 

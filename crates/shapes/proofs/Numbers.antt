@@ -1,9 +1,5 @@
 -- A layout's number: its parts taken out and put together.
-use mathlib.Core.Path.{_≡_, sym, _∙_}
-use mathlib.Core.Bool.{Bool, true, false}
-use Prim.Native.Nat.{ℕ, _+_, _*_, _/_, _%_, _<_}
-use native.Mathlib.Omega.{arith}
-use borrow.Author.Tests.{le-leb, lt-leb}
+use Rattle.rules.proofs.Basics.{_≡_, sym, _∙_, Bool, true, false, ℕ, _+_, _*_, _/_, _%_, _<_, arith, le-leb, lt-leb}
 use Rattle.rules.specs.Layout.{Inline, Block}
 use Rattle.shapes.specs.Shapes.{is-block, first, second, of-widths, shape}
 

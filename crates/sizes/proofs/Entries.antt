@@ -1,9 +1,6 @@
 -- The table against the rules: one test, computed over all its entries, says that it is right.
-use mathlib.Core.Path.{_≡_, refl}
-use mathlib.Core.List.{List}
-use mathlib.Core.Bool.{Bool, true, false, _&&_, Bool·beq}
-use Prim.Native.Nat.{ℕ}
-use lib.Dec.{T, eqb, eqb→eq}
+use Rattle.rules.proofs.Basics.{_≡_, refl, List, Bool, true, false, _&&_, ℕ, T, eqb, eqb→eq}
+use mathlib.Core.Bool.{Bool·beq}
 use lib.Ieee.Fits.{and-l, and-r}
 use Rattle.rules.specs.Digits.{Decimal}
 use Rattle.rules.specs.Sizes.{em}

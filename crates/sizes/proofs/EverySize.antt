@@ -1,11 +1,5 @@
 -- A test that is computed at each accepted size holds of every one.
-use mathlib.Core.Path.{_≡_, subst}
-use mathlib.Core.Bool.{Bool, true, _&&_}
-use Prim.Native.Nat.{ℕ, zero, suc, _<_}
-use native.Mathlib.Decide.{decLt}
-use native.Mathlib.Omega.{arith}
-use lib.Dec.{T, leb→le}
-use lib.IntN.{ℤ, pos, negsuc}
+use Rattle.rules.proofs.Basics.{_≡_, subst, Bool, true, _&&_, ℕ, zero, suc, _<_, decLt, arith, T, leb→le, ℤ, pos, negsuc}
 use lib.Ieee.Fits.{and-l, and-r}
 use lib.Signed.{_≤ℤ_}
 use mir.Syntax.{w8}

@@ -1,10 +1,5 @@
 -- Where an accepted size stands in the table: what the code computes, and what it reads there.
-use mathlib.Core.Path.{_≡_}
-use mathlib.Core.List.{List}
-use Prim.Native.Nat.{ℕ, _*_, _^_, _<_}
-use native.Mathlib.Omega.{arith}
-use lib.Dec.{T, ltb, eqb, ltb→lt, eqb→eq}
-use lib.IntN.{ℤ, pos, natAbs, _+ℤ_}
+use Rattle.rules.proofs.Basics.{_≡_, List, ℕ, _*_, _^_, _<_, arith, T, ltb, eqb, ltb→lt, eqb→eq, ℤ, pos, natAbs, _+ℤ_}
 use lib.Signed.{_≤ℤ_, mag, nonNeg}
 use mir.Syntax.{Width, w8, w16, w64}
 use mir.Val.{SFits, Fits, hbits, toZ, ofZ}

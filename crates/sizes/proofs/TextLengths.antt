@@ -1,8 +1,5 @@
 -- How long the text of an accepted size is at most, for a caller that makes room for it.
-use Prim.Native.Nat.{_≤_}
-use lib.Dec.{T, leb, leb→le}
-use lib.IntN.{ℤ}
-use lib.ListN.{length}
+use Rattle.rules.proofs.Basics.{_≤_, T, leb, leb→le, ℤ, length}
 use Rattle.rules.specs.Sizes.{em-text}
 use Rattle.rules.proofs.EmSizes.{AcceptedSize}
 use Rattle.rules.proofs.Open.{all-open}

@@ -1,11 +1,5 @@
 -- A test that is computed at each of the 256 bytes, or signed bytes, holds of every one.
-use mathlib.Core.Path.{_≡_, sym, subst}
-use mathlib.Core.Bool.{Bool, true, false, _&&_}
-use Prim.Native.Nat.{ℕ, zero, suc, _<_, _^_}
-use native.Mathlib.Decide.{decLt}
-use native.Mathlib.Omega.{arith}
-use lib.Dec.{T, ltb, ltb→lt}
-use lib.IntN.{ℤ, pos, negsuc}
+use Rattle.rules.proofs.Basics.{_≡_, sym, subst, Bool, true, false, _&&_, ℕ, zero, suc, _<_, _^_, decLt, arith, T, ltb, ltb→lt, ℤ, pos, negsuc}
 use lib.Ieee.Fits.{and-l, and-r}
 use lib.Signed.{mag}
 use mir.Syntax.{Width, w8}

@@ -1,9 +1,5 @@
 -- Values of a known length.
-use mathlib.Core.Path.{_≡_, refl}
-use mathlib.Core.List.{List, [], _∷_}
-use Prim.Native.Nat.{ℕ, _+_, _*_}
-use native.Mathlib.Omega.{arith}
-use lib.ListN.{length, getD}
+use Rattle.rules.proofs.Basics.{_≡_, refl, List, [], _∷_, ℕ, _+_, _*_, arith, length, getD}
 use Rattle.rules.specs.Bytes.{number, number-from}
 
 pub three : (v : List ℕ) → length v ≡ 3 → getD v 0 0 ∷ getD v 1 0 ∷ getD v 2 0 ∷ [] ≡ v

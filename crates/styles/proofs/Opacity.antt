@@ -1,14 +1,9 @@
 -- Bits of an opacity, as tests and as a float.
-use mathlib.Core.Path.{_≡_, refl, sym, subst}
-use mathlib.Core.Bool.{Bool, true, false, not, _&&_, _||_}
-use Prim.Native.Nat.{ℕ, _*_, _%_, _≤_}
-use native.Mathlib.Nat.{mod-le, le-trans}
-use native.Mathlib.Omega.{arith}
+use Rattle.rules.proofs.Basics.{_≡_, refl, sym, subst, Bool, true, false, not, _&&_, _||_, ℕ, _*_, _%_, _≤_, le-trans, arith, T, leb, eqb, leb-true, eqb-true}
+use native.Mathlib.Nat.{mod-le}
 use lib.Arith.{le→nltb}
-use lib.Dec.{T, leb, eqb}
 use lib.Ieee.{Float, nan, inf, fin, binary32, ofBits, toBits, nanBits, isNan, top, ones, hid}
 use lib.Ieee.Bits.{nanBits-above, nanBits-is, toBits-ofBits}
-use borrow.Author.Tests.{leb-true, eqb-true}
 use Rattle.rules.specs.Walk.{right-opacity}
 
 -- ---- the test

@@ -1,10 +1,5 @@
 -- The walk over the fields of some bytes: what is still to be put in, at a place.
-use mathlib.Core.Path.{_≡_, refl, sym, _∙_}
-use mathlib.Core.List.{List}
-use Prim.Native.Nat.{ℕ, zero, suc, _+_, _-_, _≤_}
-use native.Mathlib.Omega.{arith}
-use lib.ListN.{length, take, drop}
-use borrow.Author.Tests.{lt-leb}
+use Rattle.rules.proofs.Basics.{_≡_, refl, sym, _∙_, List, ℕ, zero, suc, _+_, _-_, _≤_, arith, length, take, drop, lt-leb}
 use Rattle.rules.specs.Tree.{Styles}
 use Rattle.fields.specs.declared.Field.{Field}
 use Rattle.fields.specs.declared.Field.the-variants.{Whole, Cut}

@@ -1,13 +1,6 @@
 -- Sizes: signed bytes, and the effective size of a style record.
-use mathlib.Core.Path.{_≡_, refl, sym, ap, _∙_}
-use mathlib.Core.Option.{none, some}
-use mathlib.Core.Bool.{Bool, true, false, _||_}
-use Prim.Native.Nat.{ℕ, suc, _-_, _<_, _≤_, _^_}
-use native.Mathlib.Omega.{arith}
-use lib.Dec.{leb, ltb, eqb, ltb→lt, eqb→eq}
-use lib.IntN.{ℤ, pos, negsuc, _-ℤ_}
+use Rattle.rules.proofs.Basics.{_≡_, refl, sym, ap, _∙_, none, some, Bool, true, false, _||_, ℕ, suc, _-_, _<_, _≤_, _^_, arith, leb, ltb, eqb, ltb→lt, eqb→eq, ℤ, pos, negsuc, _-ℤ_, le-ltb, le-leb}
 use lib.Signed.{mag, leZ}
-use borrow.Author.Tests.{le-ltb, le-leb}
 use mir.Syntax.{w8, w16}
 use mir.Val.{SFits, toZ, ofZ}
 use mir.ValLaws.{toZ-ofZ}

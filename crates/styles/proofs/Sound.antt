@@ -1,13 +1,6 @@
 -- The style read from the bytes of good fields is the one that the rules read from those fields.
-use mathlib.Core.Path.{_≡_, refl, sym, ap, _∙_}
-use mathlib.Core.List.{List, [], _++_, append-assoc}
-use mathlib.Core.Option.{Option, none, some, Option·map}
-use mathlib.Core.Bool.{Bool, true, false, _&&_, _||_, and-eq-true-iff, or-false, or-assoc, or-comm}
-use Prim.Native.Nat.{ℕ, zero, suc, _+_, _≤_, _<_}
-use native.Mathlib.Omega.{arith}
-use lib.Dec.{leb, ltb, eqb}
-use lib.ListN.{length, length-append}
-use borrow.Author.Tests.{leb-true, ltb-true, eqb-true, ne-eqb, lt-leb}
+use Rattle.rules.proofs.Basics.{_≡_, refl, sym, ap, _∙_, List, [], _++_, append-assoc, Option, none, some, Option·map, Bool, true, false, _&&_, _||_, and-eq-true-iff, or-false, ℕ, zero, suc, _+_, _≤_, _<_, arith, leb, ltb, eqb, length, length-append, leb-true, ltb-true, eqb-true, ne-eqb, lt-leb}
+use mathlib.Core.Bool.{or-assoc, or-comm}
 use Rattle.rules.specs.Bytes.{if_then_else_, within, has, number}
 use Rattle.rules.specs.Walk.{Fields, end, bytes, inside, Holder, in-styles, allowed, holds, content, right-length, right-opacity, right-size, tags}
 use Rattle.rules.specs.Tree.{Styles, bytes-of, signed-byte, styles-of}

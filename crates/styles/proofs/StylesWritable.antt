@@ -1,15 +1,6 @@
 -- A style that was read has a text in HTML: its opacity and its size are allowed.
-use mathlib.Core.Path.{_≡_, refl, sym, subst, _∙_}
-use mathlib.Core.List.{List}
-use mathlib.Core.Option.{Option, none, some}
-use mathlib.Core.Bool.{Bool, true, false, _||_, and-eq-true-iff, or-false}
-use Prim.Native.Nat.{ℕ, zero, suc, _-_}
-use native.Mathlib.Omega.{arith}
-use lib.Dec.{T, leb, ltb, eqb}
-use lib.ListN.{length, take, drop}
-use lib.IntN.{ℤ, pos, negsuc}
+use Rattle.rules.proofs.Basics.{_≡_, refl, sym, subst, _∙_, List, Option, none, some, Bool, true, false, _||_, and-eq-true-iff, or-false, ℕ, zero, suc, _-_, arith, T, leb, ltb, eqb, length, take, drop, ℤ, pos, negsuc, ltb-true, ltb-false, le-leb, lt-leb, eqb-true}
 use lib.Signed.{leZ, _≤ℤ_, leZ-yes}
-use borrow.Author.Tests.{ltb-true, ltb-false, le-leb, lt-leb, eqb-true}
 use Rattle.rules.specs.Bytes.{if_then_else_, number}
 use Rattle.rules.specs.Digits.{signed}
 use Rattle.rules.specs.Walk.{right-length, right-opacity, right-size}

@@ -1,14 +1,6 @@
 -- The width of one byte, read alone: what a field makes of it, and the walk over the fields.
-use mathlib.Core.Path.{_≡_, refl, sym, ap, _∙_}
-use mathlib.Core.List.{List}
-use mathlib.Core.Option.{Option, none, some}
-use mathlib.Core.Bool.{Bool, true, false, cond, _||_}
-use Prim.Native.Nat.{ℕ, suc, _+_, _-_, _%_, _≤_, _<_}
-use native.Mathlib.Omega.{arith}
-use lib.Dec.{ltb, eqb, leb→le, eqb→eq}
-use lib.IntN.{ℤ, pos, negsuc}
-use lib.ListN.{length, take, drop, getD}
-use borrow.Author.Tests.{eq-eqb, ne-eqb, lt-ltb, le-ltb, le-leb, lt-leb}
+use Rattle.rules.proofs.Basics.{_≡_, refl, sym, ap, _∙_, List, Option, none, some, Bool, true, false, _||_, ℕ, suc, _+_, _-_, _%_, _≤_, _<_, arith, ltb, eqb, leb→le, eqb→eq, ℤ, pos, negsuc, length, take, drop, getD, eq-eqb, ne-eqb, lt-ltb, le-ltb, le-leb, lt-leb}
+use mathlib.Core.Bool.{cond}
 use Rattle.rules.specs.Bytes.{if_then_else_}
 use Rattle.rules.specs.Digits.{signed}
 use Rattle.rules.specs.Walk.{right-length, right-size}

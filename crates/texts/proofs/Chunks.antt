@@ -1,14 +1,5 @@
 -- A chunk of bytes: whether it has a newline, and how it is passed.
-use mathlib.Core.Path.{_≡_, refl, sym, _∙_}
-use mathlib.Core.List.{List, [], _∷_}
-use mathlib.Core.Bool.{Bool, true, false, _||_, or-true, or-false}
-use Prim.Native.Nat.{ℕ, zero, suc, _+_, _-_, _≤_, _<_}
-use native.Mathlib.Omega.{arith}
-use native.Mathlib.Numerals.{add-one}
-use lib.Dec.{eqb}
-use lib.ListN.{length, take, drop, getD, drop-of-length-le, length-drop}
-use lib.Seq.{drop-cons, drop-drop}
-use borrow.Author.Tests.{eq-eqb, ne-eqb}
+use Rattle.rules.proofs.Basics.{_≡_, refl, sym, _∙_, List, [], _∷_, Bool, true, false, _||_, or-true, or-false, ℕ, zero, suc, _+_, _-_, _≤_, _<_, arith, add-one, eqb, length, take, drop, getD, drop-of-length-le, length-drop, drop-cons, drop-drop, eq-eqb, ne-eqb}
 use Rattle.rules.specs.Bytes.{has}
 use Rattle.texts.specs.FirstLine.{first-long, Passed}
 use Rattle.texts.proofs.Passing.{first-other}

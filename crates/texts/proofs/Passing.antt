@@ -1,12 +1,5 @@
 -- The bytes before the first newline, counted from the front, byte by byte.
-use mathlib.Core.Path.{_≡_}
-use mathlib.Core.List.{List, _∷_}
-use Prim.Native.Nat.{ℕ, suc, _+_, _≤_, _<_}
-use native.Mathlib.Omega.{arith}
-use native.Mathlib.Numerals.{add-one}
-use lib.ListN.{length, drop, getD, drop-of-length-le}
-use lib.Seq.{drop-cons}
-use borrow.Author.Tests.{eq-eqb, ne-eqb}
+use Rattle.rules.proofs.Basics.{_≡_, List, _∷_, ℕ, suc, _+_, _≤_, _<_, arith, add-one, length, drop, getD, drop-of-length-le, drop-cons, eq-eqb, ne-eqb}
 use Rattle.rules.specs.Bytes.{newline}
 use Rattle.rules.specs.Layout.{parts}
 use Rattle.texts.specs.FirstLine.{first-long, Passed}

@@ -1,14 +1,6 @@
 -- Bytes that have no bit of 128 are UTF-8.
-use mathlib.Core.Path.{_≡_, refl, sym, ap}
-use mathlib.Core.List.{List, [], _∷_}
-use mathlib.Core.Option.{some}
-use mathlib.Core.Bool.{true}
-use Prim.Native.Nat.{ℕ, _+_, _≤_, _<_}
-use native.Mathlib.Omega.{arith}
-use native.Mathlib.Numerals.{add-one}
+use Rattle.rules.proofs.Basics.{_≡_, refl, sym, ap, List, [], _∷_, some, true, ℕ, _+_, _≤_, _<_, arith, add-one, length, drop, getD, drop-of-length-le, drop-cons}
 use lib.Bits.{bitOr, and-le-l, and-le-r, or-add-and}
-use lib.ListN.{length, drop, getD, drop-of-length-le}
-use lib.Seq.{drop-cons}
 use Rattle.rules.specs.Utf8.{following, utf8, utf8-after}
 use Rattle.utf8.specs.Answer.{utf8-answer, sound-if}
 use Rattle.utf8.specs.AllBits.{bits-with, all-bits}

@@ -1,13 +1,5 @@
 -- What is wanted after a byte, by the branches of the code's step.
-use mathlib.Core.Path.{_≡_, refl}
-use mathlib.Core.List.{_∷_}
-use mathlib.Core.Option.{none, some}
-use mathlib.Core.Bool.{Bool, true, false, _&&_}
-use Prim.Native.Nat.{ℕ, zero, suc, _-_, _≤_, _<_}
-use native.Mathlib.Omega.{arith}
-use lib.Dec.{leb}
-use lib.ListN.{replicate}
-use borrow.Author.Tests.{le-leb, lt-leb}
+use Rattle.rules.proofs.Basics.{_≡_, refl, _∷_, none, some, Bool, true, false, _&&_, ℕ, zero, suc, _-_, _≤_, _<_, arith, leb, replicate, le-leb, lt-leb}
 use Rattle.rules.specs.Bytes.{within}
 use Rattle.rules.specs.Utf8.{_to_, following}
 use Rattle.utf8.specs.Owing.{ranges, after}

@@ -1,10 +1,5 @@
 -- What follows a first byte, for all bytes of a range at once, from one computed list.
-use mathlib.Core.Path.{_≡_, sym, _∙_, ap}
-use mathlib.Core.List.{List, [], _∷_, map}
-use mathlib.Core.Option.{Option}
-use Prim.Native.Nat.{ℕ, zero, suc, _+_, _-_, _≤_, _<_}
-use native.Mathlib.Omega.{arith}
-use lib.ListN.{replicate}
+use Rattle.rules.proofs.Basics.{_≡_, sym, _∙_, ap, List, [], _∷_, map, Option, ℕ, zero, suc, _+_, _-_, _≤_, _<_, arith, replicate}
 use Rattle.rules.specs.Utf8.{Range, following}
 use Rattle.utf8.specs.Owing.{wanted}
 use Rattle.utf8.specs.declared.Begun.{Begun}

@@ -1,13 +1,5 @@
 -- A turn of the loops: one byte taken from what is left of the slice.
-use mathlib.Core.Path.{_≡_, refl, sym, ap}
-use mathlib.Core.List.{List, [], _∷_}
-use mathlib.Core.Option.{none, some}
-use mathlib.Core.Bool.{Bool, true, false, _&&_}
-use Prim.Native.Nat.{ℕ, suc, _+_, _≤_, _<_}
-use native.Mathlib.Numerals.{add-one}
-use lib.ListN.{length, drop, getD, drop-of-length-le}
-use lib.Seq.{drop-cons}
-use borrow.Author.Tests.{eq-eqb, ne-eqb}
+use Rattle.rules.proofs.Basics.{_≡_, refl, sym, ap, List, [], _∷_, none, some, Bool, true, false, _&&_, ℕ, suc, _+_, _≤_, _<_, add-one, length, drop, getD, drop-of-length-le, drop-cons, eq-eqb, ne-eqb}
 use Rattle.rules.specs.Bytes.{if_then_else_, has}
 use Rattle.rules.specs.Utf8.{Range, in-range, begun, utf8, utf8-after}
 use Rattle.utf8.specs.Answer.{utf8-answer, sound-if}

@@ -1,9 +1,5 @@
 -- The whole file: the walk over a fragment, as the file check's answer.
-use mathlib.Core.Path.{_≡_, refl, sym, _∙_, ap}
-use mathlib.Core.List.{List}
-use Prim.Native.Nat.{ℕ, _≤_, _<_}
-use lib.ListN.{length}
-use borrow.Author.Tests.{le-leb, lt-leb}
+use Rattle.rules.proofs.Basics.{_≡_, refl, sym, _∙_, ap, List, ℕ, _≤_, _<_, length, le-leb, lt-leb}
 use Rattle.rules.specs.declared.Refusal.{Refusal}
 use Rattle.rules.specs.Limits.{most-bytes}
 use Rattle.rules.specs.Result.{Result, refused, accepted, _>>=_, _>>_, need, sound, refusal}

@@ -1,12 +1,5 @@
 -- The content of a value of bytes, by its tag and by what the tests say.
-use mathlib.Core.Path.{_≡_, refl, sym, _∙_}
-use mathlib.Core.List.{List, [], _∷_}
-use mathlib.Core.Bool.{Bool, true, false}
-use Prim.Native.Nat.{ℕ, _+_, _*_, _≤_, _<_}
-use native.Mathlib.Omega.{arith}
-use lib.Dec.{leb}
-use lib.ListN.{length, getD}
-use borrow.Author.Tests.{le-leb, lt-leb, ne-eqb, eq-eqb, eqb-true}
+use Rattle.rules.proofs.Basics.{_≡_, refl, sym, _∙_, List, [], _∷_, Bool, true, false, ℕ, _+_, _*_, _≤_, _<_, arith, leb, length, getD, le-leb, lt-leb, ne-eqb, eq-eqb, eqb-true}
 use Rattle.rules.specs.Limits.{first-style}
 use Rattle.rules.specs.Bytes.{has, number, number-from}
 use Rattle.rules.specs.Utf8.{utf8}

@@ -1,8 +1,5 @@
 -- No second answer satisfies the contracts of this crate. Most are equations of the answer; these are those that are not, as they stand.
-use mathlib.Core.Path.{_≡_, refl, sym, _∙_, ap}
-use mathlib.Core.List.{List}
-use mathlib.Core.Bool.{Bool}
-use Prim.Native.Nat.{ℕ}
+use Rattle.rules.proofs.Basics.{_≡_, refl, sym, _∙_, ap, List, Bool, ℕ}
 use Rattle.rules.specs.declared.Answer.{Answer}
 use Rattle.rules.specs.declared.Answer.the-variants.{Done, Refused}
 use Rattle.rules.specs.Result.{said}

@@ -1,13 +1,5 @@
 -- The header of a field: what the code's tests say is what the rules say of the bytes that are left.
-use mathlib.Core.Path.{_≡_, refl, sym, _∙_, ap}
-use mathlib.Core.List.{List, [], _∷_, map}
-use mathlib.Core.Bool.{Bool, true, false, _&&_, not}
-use Prim.Native.Nat.{ℕ, suc, _+_, _-_, _*_, _≤_, _<_}
-use native.Mathlib.Omega.{arith}
-use lib.Dec.{leb}
-use lib.ListN.{length, getD, take, drop, length-take, length-drop}
-use lib.Seq.{drop-cons, drop-drop}
-use borrow.Author.Tests.{leb-true, leb-false, le-leb, lt-leb}
+use Rattle.rules.proofs.Basics.{_≡_, refl, sym, _∙_, ap, List, [], _∷_, map, Bool, true, false, _&&_, not, ℕ, suc, _+_, _-_, _*_, _≤_, _<_, arith, leb, length, getD, take, drop, length-take, length-drop, drop-cons, drop-drop, leb-true, leb-false, le-leb, lt-leb}
 use Rattle.rules.specs.Limits.{most-blocks}
 use Rattle.rules.specs.Bytes.{number}
 use Rattle.rules.specs.declared.Refusal.{Refusal}

@@ -1,9 +1,5 @@
 -- The loop over a value's fields: how far it has come, what its state says of the tags so far, and what it may say. One for all holders.
-use mathlib.Core.Path.{_≡_, refl, sym, _∙_, ap, subst}
-use mathlib.Core.List.{List, [], _∷_, _++_}
-use Prim.Native.Nat.{ℕ, _+_, _-_, _≤_, _<_}
-use native.Mathlib.Omega.{arith}
-use lib.ListN.{length, getD, drop}
+use Rattle.rules.proofs.Basics.{_≡_, refl, sym, _∙_, ap, subst, List, [], _∷_, _++_, ℕ, _+_, _-_, _≤_, _<_, arith, length, getD, drop}
 use Rattle.rules.specs.declared.Refusal.{Refusal}
 use Rattle.rules.specs.Result.{Result, _>>=_, Check, sound}
 use Rattle.rules.specs.Walk.{Holder, in-fragment, in-block, in-styles, Field, front, complete, allowed}

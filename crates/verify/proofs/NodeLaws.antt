@@ -1,11 +1,5 @@
 -- Fields behind their headers, by where they stand: what their values are asked for, and what they make them.
-use mathlib.Core.Path.{_≡_, refl, sym, _∙_}
-use mathlib.Core.List.{List}
-use mathlib.Core.Bool.{Bool, true, false, not}
-use Prim.Native.Nat.{ℕ, _+_, _-_, _≤_, _<_}
-use lib.Dec.{eqb}
-use lib.ListN.{length, getD, take, drop}
-use borrow.Author.Tests.{not-true, not-false}
+use Rattle.rules.proofs.Basics.{_≡_, refl, sym, _∙_, List, Bool, true, false, not, ℕ, _+_, _-_, _≤_, _<_, eqb, length, getD, take, drop, not-true, not-false}
 use Rattle.rules.specs.Limits.{most-blocks, first-style, last-style}
 use Rattle.rules.specs.Result.{refusal, sound}
 use Rattle.rules.specs.Walk.{in-fragment, in-block, in-text, in-anchor, in-styles, allowed, is-block, text-content, anchor-content}

@@ -1,6 +1,5 @@
 -- Checks and results: a refusal is not a sound check, and a chain whose first step is refused.
-use mathlib.Core.Path.{_≡_, refl, sym, _∙_, ap}
-use Prim.Native.Nat.{ℕ}
+use Rattle.rules.proofs.Basics.{_≡_, refl, sym, _∙_, ap, ℕ}
 use Rattle.rules.specs.declared.Refusal.{Refusal}
 use Rattle.rules.specs.declared.Refusal.the-variants.{TooLong, TooWide, Cut, WrongTag, WrongLength, TooDeep, NotUtf8, BadStyle, QuoteInAnchor, PageTooShort}
 use Rattle.rules.specs.declared.Answer.the-variants.{Done, Refused}

@@ -1,10 +1,5 @@
 -- What the last tag, or the record of those of a 16, says of the tags so far; and what is wrong at the end by it.
-use mathlib.Core.Path.{_≡_, refl, sym, _∙_, ap}
-use mathlib.Core.List.{List, [], _∷_, _++_}
-use mathlib.Core.Bool.{Bool, true, false, _&&_, _||_, not}
-use Prim.Native.Nat.{ℕ}
-use lib.Dec.{eqb}
-use borrow.Author.Tests.{ne-eqb, eqb-true, eqb-false}
+use Rattle.rules.proofs.Basics.{_≡_, refl, sym, _∙_, ap, List, [], _∷_, _++_, Bool, true, false, _&&_, _||_, not, ℕ, eqb, ne-eqb, eqb-true, eqb-false}
 use Rattle.rules.specs.Bytes.{has}
 use Rattle.rules.specs.Result.{refused, accepted, _>>_, need, _or-refuse_, sound}
 use Rattle.rules.specs.Walk.{in-text, in-anchor, in-styles, complete}

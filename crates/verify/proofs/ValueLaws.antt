@@ -1,13 +1,5 @@
 -- The value of a field, by its tag: bytes, or fields.
-use mathlib.Core.Path.{_≡_, refl, sym, _∙_, ap}
-use mathlib.Core.List.{List}
-use mathlib.Core.Bool.{Bool, true, false, _&&_}
-use mathlib.Core.Option.{none, some}
-use Prim.Native.Nat.{ℕ, suc, _+_, _≤_, _<_}
-use native.Mathlib.Omega.{arith}
-use lib.Dec.{leb, eqb}
-use lib.ListN.{length}
-use borrow.Author.Tests.{ne-eqb, eq-eqb, eqb-true, eqb-false, le-leb, lt-leb}
+use Rattle.rules.proofs.Basics.{_≡_, refl, sym, _∙_, ap, List, Bool, true, false, _&&_, none, some, ℕ, suc, _+_, _≤_, _<_, arith, leb, eqb, length, ne-eqb, eq-eqb, eqb-true, eqb-false, le-leb, lt-leb}
 use Rattle.rules.specs.Limits.{most-blocks, first-style}
 use Rattle.rules.specs.Result.{Result, refused, _>>_, need, sound}
 use Rattle.rules.specs.Walk.{Holder, in-fragment, in-block, in-text, in-anchor, in-styles, of-fields, valued, walk, holds, text-content, anchor-content, content, complete, tags, right-length, is-block}

@@ -1,11 +1,5 @@
 -- The walk, one field at a time, as the loop over a value's fields takes it.
-use mathlib.Core.Path.{_≡_, refl, sym, _∙_, ap}
-use mathlib.Core.List.{List, [], _∷_, _++_, append-assoc}
-use Prim.Native.Nat.{ℕ, zero, suc, _+_, _≤_, _<_}
-use native.Mathlib.Nat.{le-refl, add-zero}
-use native.Mathlib.Omega.{arith}
-use lib.ListN.{length, getD, drop, drop-of-length-le}
-use lib.Seq.{drop-cons}
+use Rattle.rules.proofs.Basics.{_≡_, refl, sym, _∙_, ap, List, [], _∷_, _++_, append-assoc, ℕ, zero, suc, _+_, _≤_, _<_, le-refl, add-zero, arith, length, getD, drop, drop-of-length-le, drop-cons}
 use Rattle.rules.specs.declared.Refusal.{Refusal}
 use Rattle.rules.specs.Result.{Result, refused, accepted, _>>=_, sound}
 use Rattle.rules.specs.Walk.{Holder, Fields, end, Field, Value, of-bytes, of-fields, put, front, content, walk, holds, complete, tags}

@@ -1,11 +1,6 @@
 -- The turns of a loop that writes a list over another of its length.
-use mathlib.Core.Path.{_≡_, refl, sym, _∙_}
-use mathlib.Core.List.{List}
-use Prim.Native.Nat.{ℕ, _+_, _<_, _≤_}
-use native.Mathlib.Numerals.{add-one}
-use native.Mathlib.Omega.{arith}
-use lib.ListN.{length, getD, set, take, length-set}
-use lib.Seq.{take-all, take-suc, take-suc-set}
+use Rattle.rules.proofs.Basics.{_≡_, refl, sym, _∙_, List, ℕ, _+_, _<_, _≤_, add-one, arith, length, getD, set, take, length-set, take-all, take-suc}
+use lib.Seq.{take-suc-set}
 
 -- the first i of the n bytes of s are written over those of `to`
 pub record Copied (s : List ℕ) (n : ℕ) (to : List ℕ) (i : ℕ) : Type 0 where

@@ -1,7 +1,5 @@
 -- No second answer satisfies the contracts of this crate.
-use mathlib.Core.Path.{_≡_, sym, _∙_}
-use mathlib.Core.List.{List}
-use Prim.Native.Nat.{ℕ}
+use Rattle.rules.proofs.Basics.{_≡_, sym, _∙_, List, ℕ}
 use Rattle.writing.specs.Written.{Written}
 
 pub written-unique : {page : List ℕ} {at : ℕ} {text p q : List ℕ} {r s : ℕ} → Written page at text p r → Written page at text q s → (p ≡ q) × (r ≡ s)

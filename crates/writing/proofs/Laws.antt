@@ -1,10 +1,6 @@
 -- Laws of writing, for callers: writings in a row, and what a page looks like afterwards.
-use mathlib.Core.Path.{_≡_, refl, sym, ap, _∙_}
-use mathlib.Core.List.{List, [], _∷_, _++_}
-use Prim.Native.Nat.{ℕ, suc, _+_, _≤_, min, max}
-use native.Mathlib.Omega.{arith}
-use lib.ListN.{length, set, drop, length-append, length-set}
-use lib.Seq.{sets, sets-eq}
+use Rattle.rules.proofs.Basics.{_≡_, refl, sym, ap, _∙_, List, [], _∷_, _++_, ℕ, suc, _+_, _≤_, min, max, arith, length, set, drop, length-append, length-set, sets-eq}
+use lib.Seq.{sets}
 use Rattle.writing.specs.Written.{last, moved, with-text, Written}
 
 -- ---- positions

@@ -1,10 +1,5 @@
 -- The bytes of a text that fit, written at once to the part of the page where they stand.
-use mathlib.Core.Path.{_≡_, refl, sym, ap, _∙_}
-use mathlib.Core.List.{List, [], _∷_, _++_, append-assoc}
-use Prim.Native.Nat.{ℕ, zero, suc, _+_, _-_, _<_, _≤_, min, max}
-use native.Mathlib.Omega.{arith}
-use lib.ListN.{length, take, drop, replicate, length-take, length-drop, length-replicate, take-append-drop}
-use lib.Seq.{set-out, sets-eq, drop-drop, length-take-le, take-all}
+use Rattle.rules.proofs.Basics.{_≡_, refl, sym, ap, _∙_, List, [], _∷_, _++_, append-assoc, ℕ, zero, suc, _+_, _-_, _<_, _≤_, min, max, arith, length, take, drop, replicate, length-take, length-drop, length-replicate, take-append-drop, set-out, sets-eq, drop-drop, length-take-le, take-all}
 use Rattle.writing.specs.Written.{last, moved, with-text, Written}
 use Rattle.writing.proofs.Laws.{with-append, with-length, with-sets}
 

@@ -1,10 +1,5 @@
 -- One byte written.
-use mathlib.Core.Path.{_≡_, refl, sym}
-use mathlib.Core.List.{List, [], _∷_}
-use Prim.Native.Nat.{ℕ, _+_, _<_, _≤_}
-use native.Mathlib.Omega.{arith}
-use lib.ListN.{length, set}
-use lib.Seq.{set-out}
+use Rattle.rules.proofs.Basics.{_≡_, refl, sym, List, [], _∷_, ℕ, _+_, _<_, _≤_, arith, length, set, set-out}
 use Rattle.writing.specs.Written.{last, moved, with-text, Written}
 
 -- ---- a position

@@ -1,6 +1,5 @@
 -- `answers::in_one` meets its contract: the number fits, since the caller says that it does.
-use native.Mathlib.Omega.{arith}
-use borrow.Author.Needs.{needs}
+use Rattle.rules.proofs.Basics.{arith, needs}
 use Rattle.answers.proofs.Numbers.{done-coded, refused-coded}
 use Rattle.answers.proofs.in_one.Statement.{statement}
 use Rattle.answers.proofs.in_one.Tie as tie

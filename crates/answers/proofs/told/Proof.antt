@@ -1,6 +1,5 @@
 -- `answers::told` meets its contract: each case names its number and place.
-use mathlib.Core.Path.{refl}
-use borrow.Author.Needs.{needs}
+use Rattle.rules.proofs.Basics.{refl, needs}
 use Rattle.answers.proofs.Numbers.{numbered}
 use Rattle.rules.specs.Result.{refusal}
 use Rattle.answers.proofs.told.Statement.{statement}

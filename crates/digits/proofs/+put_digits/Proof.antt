@@ -1,7 +1,5 @@
 -- `digits::put_digits` meets its contract: the number falls at each call.
-use Prim.Native.Nat.{ℕ, _<_}
-use native.Mathlib.Omega.{arith}
-use borrow.Author.Needs.{needs}
+use Rattle.rules.proofs.Basics.{ℕ, _<_, arith, needs}
 use borrow.Fn.PlainCycle.{Measures, is, falls, and}
 use Rattle.rules.proofs.Printed.{digits-small, digits-large}
 use Rattle.writing.proofs.Laws.{then}

@@ -1,7 +1,5 @@
 -- `digits::put_last_digits` meets its contract: the places fall at each call.
-use Prim.Native.Nat.{ℕ, _<_}
-use native.Mathlib.Omega.{arith}
-use borrow.Author.Needs.{needs}
+use Rattle.rules.proofs.Basics.{ℕ, _<_, arith, needs}
 use borrow.Fn.PlainCycle.{Measures, is, falls, and}
 use Rattle.digits.proofs.Figures.{place-more}
 use Rattle.rules.specs.Digits.{last-digits}

@@ -1,9 +1,5 @@
 -- `digits::before_point` meets its contract. The loop's invariant: what is left is n with as many places cut as were counted.
-use mathlib.Core.Path.{_≡_, sym}
-use Prim.Native.Nat.{_≤_, _-_, _/_, _^_}
-use native.Mathlib.Nat.{div-one}
-use native.Mathlib.Omega.{arith}
-use borrow.Author.Needs.{needs}
+use Rattle.rules.proofs.Basics.{_≡_, sym, _≤_, _-_, _/_, _^_, div-one, arith, needs}
 use Rattle.digits.proofs.Figures.{one-more-cut, all-cut}
 use Rattle.digits.proofs.before_point.Statement.{statement}
 use Rattle.digits.proofs.before_point.Tie as tie

@@ -1,6 +1,5 @@
 -- `digits::hex_digit` meets its contract: letters follow the ten digits.
-use borrow.Author.Needs.{needs}
-use borrow.Author.Tests.{lt-ltb, le-ltb}
+use Rattle.rules.proofs.Basics.{needs, lt-ltb, le-ltb}
 use Rattle.rules.specs.Digits.{hex-digit}
 use Rattle.digits.proofs.hex_digit.Statement.{statement}
 use Rattle.digits.proofs.hex_digit.Tie as tie

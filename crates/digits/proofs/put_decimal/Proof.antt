@@ -1,6 +1,5 @@
 -- `digits::put_decimal` meets its contract.
-use mathlib.Core.Path.{refl}
-use borrow.Author.Needs.{needs}
+use Rattle.rules.proofs.Basics.{refl, needs}
 use Rattle.digits.proofs.Figures.{decimal}
 use Rattle.digits.proofs.put_decimal.Statement.{statement}
 use Rattle.digits.proofs.put_decimal.Tie as tie

@@ -1,8 +1,6 @@
 -- `digits::put_signed` meets its contract.
-use mathlib.Core.Path.{ap, _∙_}
-use lib.IntN.{ℤ, pos, natAbs}
+use Rattle.rules.proofs.Basics.{ap, _∙_, ℤ, pos, natAbs, needs}
 use lib.Signed.{ltZ}
-use borrow.Author.Needs.{needs}
 use Rattle.digits.proofs.Figures.{signed}
 use Rattle.digits.proofs.Wider.{as-held}
 use Rattle.digits.proofs.put_signed.Statement.{statement}

@@ -1,6 +1,5 @@
 -- `digits::size` meets its contract.
-use mathlib.Core.Path.{ap}
-use lib.IntN.{natAbs}
+use Rattle.rules.proofs.Basics.{ap, natAbs}
 use Rattle.digits.proofs.Wider.{as-held, wide-fits, opposite-fits, opposite-casts, opposite-size, casts}
 use Rattle.digits.proofs.size.Statement.{statement}
 use Rattle.digits.proofs.size.Tie as tie

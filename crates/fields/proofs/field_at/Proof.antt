@@ -1,7 +1,6 @@
 -- `fields::field_at` meets its contract: each answer is a law of the field at a place, by the lengths that its branch has tested.
 use Rattle.fields.proofs.Laws.{cut, whole, past}
-use native.Mathlib.Omega.{arith}
-use borrow.Author.Needs.{needs}
+use Rattle.rules.proofs.Basics.{arith, needs}
 use Rattle.fields.proofs.field_at.Statement.{statement}
 use Rattle.fields.proofs.field_at.Tie as tie
 

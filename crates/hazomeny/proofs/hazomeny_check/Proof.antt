@@ -1,7 +1,5 @@
 -- `hazomeny::hazomeny_check` meets its contract: the answer in one number, which fits 64 bits.
-use mathlib.Core.Path.{sym, _∙_, ap, subst}
-use Prim.Native.Nat.{_<_, _^_}
-use borrow.Author.Needs.{needs}
+use Rattle.rules.proofs.Basics.{sym, _∙_, ap, subst, _<_, _^_, needs}
 use Rattle.rules.specs.Answers.{coded}
 use Rattle.hazomeny.proofs.Fits.{told-check}
 use Rattle.hazomeny.proofs.hazomeny_check.Statement.{statement}

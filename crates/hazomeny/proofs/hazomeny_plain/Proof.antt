@@ -1,6 +1,5 @@
 -- `hazomeny::hazomeny_plain` meets its contract: the answer in one number, which fits 64 bits, and the same bytes.
-use native.Mathlib.Omega.{arith}
-use borrow.Author.Needs.{needs}
+use Rattle.rules.proofs.Basics.{arith, needs}
 use Rattle.rules.specs.Alike.{plain-page}
 use Rattle.hazomeny.proofs.Fits.{page-fits, coded-pair}
 use Rattle.hazomeny.proofs.hazomeny_plain.Statement.{statement}

@@ -1,6 +1,5 @@
 -- `lines::append_to_line` meets its contract: an empty part, and one with text.
-use mathlib.Core.Path.{refl}
-use borrow.Author.Needs.{needs}
+use Rattle.rules.proofs.Basics.{refl, needs}
 use Rattle.lines.proofs.Steps.{empty-part, text-part}
 use Rattle.lines.proofs.append_to_line.Statement.{statement}
 use Rattle.lines.proofs.append_to_line.Tie as tie

@@ -1,6 +1,5 @@
 -- `lines::levels` meets its contract: too many levels, or some missing.
-use borrow.Author.Needs.{needs}
-use borrow.Author.Tests.{lt-ltb, le-ltb}
+use Rattle.rules.proofs.Basics.{needs, lt-ltb, le-ltb}
 use Rattle.rules.specs.Lines as rules
 use Rattle.lines.specs.Said.{line-of, brought-of, spacing-bytes}
 use Rattle.lines.proofs.levels.Statement.{statement}

@@ -1,6 +1,5 @@
 -- `lines::pop_indent` meets its contract: by whether there is a level.
-use borrow.Author.Needs.{needs}
-use native.Mathlib.Numerals.{sub-one}
+use Rattle.rules.proofs.Basics.{needs, sub-one}
 use Rattle.rules.specs.Lines as rules
 use Rattle.lines.specs.Said.{machine-of}
 use Rattle.lines.proofs.pop_indent.Statement.{statement}

@@ -1,6 +1,5 @@
 -- `lines::push_indent` meets its contract.
-use borrow.Author.Needs.{needs}
-use native.Mathlib.Numerals.{add-one}
+use Rattle.rules.proofs.Basics.{needs, add-one}
 use Rattle.rules.specs.Lines as rules
 use Rattle.lines.specs.Said.{machine-of}
 use Rattle.lines.proofs.push_indent.Statement.{statement}

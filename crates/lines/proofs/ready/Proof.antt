@@ -1,6 +1,5 @@
 -- `lines::ready` meets its contract: the break, then the spaces.
-use mathlib.Core.Path.{refl}
-use borrow.Author.Needs.{needs}
+use Rattle.rules.proofs.Basics.{refl, needs}
 use Rattle.lines.proofs.Spaces.{made-ready}
 use Rattle.lines.proofs.ready.Statement.{statement}
 use Rattle.lines.proofs.ready.Tie as tie

@@ -1,6 +1,5 @@
 -- `lines::step` meets its contract: operation by operation.
-use borrow.Author.Needs.{needs}
-use mathlib.Core.Path.{sym, _∙_}
+use Rattle.rules.proofs.Basics.{needs, sym, _∙_}
 use Rattle.rules.specs.Lines as rules
 use Rattle.lines.specs.Said.{break-bytes, operation, own}
 use Rattle.lines.proofs.Steps.{with-items}

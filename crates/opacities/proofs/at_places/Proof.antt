@@ -1,11 +1,5 @@
 -- `opacities::at_places` meets its contract.
-use mathlib.Core.Path.{sym, ap, _∙_}
-use mathlib.Core.Bool.{false≢true}
-use mathlib.Core.Logic.{⊎-elim}
-use mathlib.Core.Option.{some}
-use native.Mathlib.Numerals.{add-one}
-use native.Mathlib.Omega.{arith}
-use borrow.Author.Needs.{needs}
+use Rattle.rules.proofs.Basics.{sym, ap, _∙_, false≢true, ⊎-elim, some, add-one, arith, needs}
 use Rattle.opacities.specs.Picked.{said}
 use Rattle.opacities.proofs.PickLaws.{picks-lower, picks-upper, picks-none, product-fits, next-fits, rest-lt, lower-fits}
 use Rattle.opacities.proofs.at_places.Statement.{statement}

@@ -1,8 +1,5 @@
 -- `opacities::search` meets its contract. The loop's invariant: the rule's search goes on at the places that are next.
-use mathlib.Core.Path.{sym, ap, _∙_}
-use Prim.Native.Nat.{_-_}
-use native.Mathlib.Omega.{arith}
-use borrow.Author.Needs.{needs}
+use Rattle.rules.proofs.Basics.{sym, ap, _∙_, _-_, arith, needs}
 use Rattle.digits.specs.Said.{decimal-of}
 use Rattle.opacities.specs.Picked.{said}
 use Rattle.opacities.proofs.Turns.{Turn, start, power-le, stop, below-ten, further}

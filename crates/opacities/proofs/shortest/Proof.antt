@@ -1,9 +1,6 @@
 -- `opacities::shortest` meets its contract.
-use mathlib.Core.Path.{sym, ap, _∙_}
-use mathlib.Core.Bool.{false}
-use native.Mathlib.Omega.{arith}
+use Rattle.rules.proofs.Basics.{sym, ap, _∙_, false, arith, needs}
 use lib.Ieee.{binary32}
-use borrow.Author.Needs.{needs}
 use Rattle.digits.specs.Said.{decimal-of}
 use Rattle.rules.specs.Search.{shortest}
 use Rattle.rules.specs.Sizes.{signed-decimal}

@@ -1,6 +1,5 @@
 -- `parts::field_end` meets its contract: by the bytes at the place.
-use native.Mathlib.Omega.{arith}
-use borrow.Author.Needs.{needs}
+use Rattle.rules.proofs.Basics.{arith, needs}
 use Rattle.parts.proofs.Spans.{ends-cut, ends-whole, ends-past}
 use Rattle.parts.proofs.field_end.Statement.{statement}
 use Rattle.parts.proofs.field_end.Tie as tie

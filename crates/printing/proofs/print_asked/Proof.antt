@@ -1,6 +1,5 @@
 -- `printing::print_asked` meets its contract: the width's two bytes, and the file behind them.
-use borrow.Author.Needs.{needs}
-use borrow.Author.Tests.{lt-leb}
+use Rattle.rules.proofs.Basics.{needs, lt-leb}
 use Rattle.printing.specs.Asked.{asked}
 use Rattle.printing.proofs.Laws.{asked-laid}
 use Rattle.printing.proofs.print_asked.Statement.{statement}

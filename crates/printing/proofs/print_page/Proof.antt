@@ -1,10 +1,7 @@
 -- `printing::print_page` meets its contract: each entry's count is within its page, and its page is the one that is left.
-use mathlib.Core.Path.{ap}
-use mathlib.Core.List.{List}
-use Prim.Native.Nat.{ℕ}
+use Rattle.rules.proofs.Basics.{ap, List, ℕ, needs}
 use Rattle.rules.specs.Result.{Result}
 use Rattle.hazomeny.proofs.Written.{plain-in-page, document-in-page}
-use borrow.Author.Needs.{needs}
 use Rattle.printing.specs.Asked.{with-page}
 use Rattle.printing.proofs.print_page.Statement.{statement}
 use Rattle.printing.proofs.print_page.Tie as tie

@@ -1,8 +1,5 @@
 -- `replay_check::replay` meets its contract: each request's file stands inside the batch, and the next one behind it.
-use Prim.Native.Nat.{_≤_, _-_}
-use lib.ListN.{length}
-use native.Mathlib.Omega.{arith}
-use borrow.Author.Needs.{needs}
+use Rattle.rules.proofs.Basics.{_≤_, _-_, length, arith, needs}
 use Rattle.requests.proofs.Laws.{file-at}
 use Rattle.replay_check.proofs.replay.Statement.{statement}
 use Rattle.replay_check.proofs.replay.Tie as tie

@@ -1,9 +1,5 @@
 -- `replay_layout::replay` meets its contract: each request's file stands inside the batch, which keeps its length.
-use mathlib.Core.Path.{_≡_, refl}
-use Prim.Native.Nat.{_≤_, _-_}
-use lib.ListN.{length}
-use native.Mathlib.Omega.{arith}
-use borrow.Author.Needs.{needs}
+use Rattle.rules.proofs.Basics.{_≡_, refl, _≤_, _-_, length, arith, needs}
 use Rattle.requests.proofs.Laws.{file-at}
 use Rattle.replay_layout.proofs.Kept.{kept}
 use Rattle.replay_layout.proofs.replay.Statement.{statement}

@@ -1,10 +1,6 @@
 -- `replay_pages::replay` is safe: each request's file stands inside the batch, and the page keeps its length.
 use Rattle.replay_pages.proofs.Lent.{taken, put-back}
-use mathlib.Core.Path.{_≡_, refl}
-use Prim.Native.Nat.{_≤_, _-_}
-use lib.ListN.{length}
-use native.Mathlib.Omega.{arith}
-use borrow.Author.Needs.{needs}
+use Rattle.rules.proofs.Basics.{_≡_, refl, _≤_, _-_, length, arith, needs}
 use Rattle.requests.proofs.Laws.{file-at}
 use Rattle.replay_pages.proofs.replay.Statement.{statement}
 use Rattle.replay_pages.proofs.replay.Tie as tie

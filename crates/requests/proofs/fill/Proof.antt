@@ -1,8 +1,5 @@
 -- `requests::fill` meets its contract. The loop's invariant: the first bytes have the pattern.
-use mathlib.Core.Path.{refl}
-use Prim.Native.Nat.{_-_, _<_}
-use lib.ListN.{length, replicate, length-replicate, getD-replicate}
-use borrow.Author.Needs.{needs}
+use Rattle.rules.proofs.Basics.{refl, _-_, _<_, length, replicate, length-replicate, getD-replicate, needs}
 use Rattle.writing.proofs.Copies.{Copied, none-copied, one-more, all-copied}
 use Rattle.requests.proofs.fill.Statement.{statement}
 use Rattle.requests.proofs.fill.Tie as tie

@@ -1,6 +1,5 @@
 -- `requests::request_at` meets its contract: each answer is a law of the request at a place, by the lengths that its branch has tested.
-use native.Mathlib.Omega.{arith}
-use borrow.Author.Needs.{needs}
+use Rattle.rules.proofs.Basics.{arith, needs}
 use Rattle.requests.proofs.Laws.{no-header, no-file, a-file}
 use Rattle.requests.proofs.request_at.Statement.{statement}
 use Rattle.requests.proofs.request_at.Tie as tie

@@ -1,7 +1,5 @@
 -- `rigid::anchor_layout` meets its contract. The loop's invariant: the runs so far, with the fields from the place on, make the whole.
-use Prim.Native.Nat.{_-_}
-use lib.ListN.{length}
-use borrow.Author.Needs.{needs}
+use Rattle.rules.proofs.Basics.{_-_, length, needs}
 use Rattle.shapes.specs.Shapes.{shape}
 use Rattle.parts.proofs.Spans.{end-rises, end-within, end-less}
 use Rattle.rigid.proofs.Runs.{Runs-left, all-runs, next-run, no-runs}

@@ -1,6 +1,5 @@
 -- `rigid::approx_rigid_layout` meets its contract: a whole field's tag and value.
-use borrow.Author.Needs.{needs}
-use borrow.Author.Tests.{le-leb, lt-leb}
+use Rattle.rules.proofs.Basics.{needs, le-leb, lt-leb}
 use Rattle.parts.proofs.Spans.{behind}
 use Rattle.rigid.specs.RigidIn.{rigid-in}
 use Rattle.rigid.proofs.approx_rigid_layout.Statement.{statement}

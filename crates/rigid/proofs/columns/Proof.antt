@@ -1,7 +1,5 @@
 -- `rigid::columns` meets its contract: by where the cap lies.
-use native.Mathlib.Omega.{arith}
-use borrow.Author.Needs.{needs}
-use mathlib.Core.Path.{sym}
+use Rattle.rules.proofs.Basics.{arith, needs, sym}
 use Rattle.shapes.proofs.Appending.{cap-under, cap-over}
 use Rattle.rigid.specs.RigidIn.{wide}
 use Rattle.rigid.proofs.Tags.{product-fits, no-width, many-bytes}

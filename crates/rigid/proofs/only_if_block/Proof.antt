@@ -1,8 +1,7 @@
 -- `rigid::only_if_block` meets its contract: by what the text is.
-use mathlib.Core.Path.{refl}
+use Rattle.rules.proofs.Basics.{refl, needs}
 use Rattle.shapes.proofs.Numbers.{line, lines}
 use Rattle.rules.specs.Layout.{only-if-block}
-use borrow.Author.Needs.{needs}
 use Rattle.rigid.proofs.only_if_block.Statement.{statement}
 use Rattle.rigid.proofs.only_if_block.Tie as tie
 

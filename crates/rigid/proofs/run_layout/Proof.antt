@@ -1,7 +1,5 @@
 -- `rigid::run_layout` meets its contract: by the fields that stand there.
-use mathlib.Core.Logic.{⊎-elim}
-use native.Mathlib.Omega.{arith}
-use borrow.Author.Needs.{needs}
+use Rattle.rules.proofs.Basics.{⊎-elim, arith, needs}
 use Rattle.fields.proofs.Laws.{rises, ends}
 use Rattle.rigid.proofs.Runs.{no-run, plain-run, cut-run, styled-run}
 use Rattle.rigid.proofs.run_layout.Statement.{statement}

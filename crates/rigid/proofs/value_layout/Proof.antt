@@ -1,6 +1,5 @@
 -- `rigid::value_layout` meets its contract: by the tag.
-use borrow.Author.Needs.{needs}
-use mathlib.Core.Path.{ap, _∙_}
+use Rattle.rules.proofs.Basics.{needs, ap, _∙_}
 use Rattle.rules.specs.Layout.{only-if-block}
 use Rattle.rigid.specs.RigidIn.{by-tag}
 use Rattle.rigid.proofs.Tags.{other-tag}

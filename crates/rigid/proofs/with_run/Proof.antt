@@ -1,6 +1,5 @@
 -- `rigid::with_run` meets its contract: by whether a 1 stands there.
-use borrow.Author.Needs.{needs}
-use borrow.Author.Tests.{eq-eqb, ne-eqb, le-leb, lt-leb}
+use Rattle.rules.proofs.Basics.{needs, eq-eqb, ne-eqb, le-leb, lt-leb}
 use Rattle.parts.proofs.Spans.{behind}
 use Rattle.rigid.specs.RigidIn.{with-run}
 use Rattle.rigid.proofs.with_run.Statement.{statement}

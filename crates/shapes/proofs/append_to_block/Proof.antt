@@ -1,8 +1,7 @@
 -- `shapes::append_to_block` meets its contract.
-use mathlib.Core.Path.{refl}
+use Rattle.rules.proofs.Basics.{refl, needs}
 use Rattle.shapes.proofs.Numbers.{line, lines}
 use Rattle.rules.specs.Layout.{_⊕_}
-use borrow.Author.Needs.{needs}
 use Rattle.shapes.proofs.append_to_block.Statement.{statement}
 use Rattle.shapes.proofs.append_to_block.Tie as tie
 

@@ -1,7 +1,6 @@
 -- `shapes::first` meets its contract.
-use mathlib.Core.Path.{refl}
+use Rattle.rules.proofs.Basics.{refl, needs}
 use Rattle.shapes.specs.Shapes.{first}
-use borrow.Author.Needs.{needs}
 use Rattle.shapes.proofs.first.Statement.{statement}
 use Rattle.shapes.proofs.first.Tie as tie
 

@@ -1,7 +1,5 @@
 -- `shapes::saturating_add` meets its contract: by where the cap lies.
-use mathlib.Core.Path.{sym}
-use native.Mathlib.Omega.{arith}
-use borrow.Author.Needs.{needs}
+use Rattle.rules.proofs.Basics.{sym, arith, needs}
 use Rattle.shapes.proofs.Appending.{cap-under, cap-over}
 use Rattle.shapes.proofs.saturating_add.Statement.{statement}
 use Rattle.shapes.proofs.saturating_add.Tie as tie

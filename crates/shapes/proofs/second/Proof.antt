@@ -1,7 +1,6 @@
 -- `shapes::second` meets its contract.
-use mathlib.Core.Path.{refl}
+use Rattle.rules.proofs.Basics.{refl, needs}
 use Rattle.shapes.specs.Shapes.{second}
-use borrow.Author.Needs.{needs}
 use Rattle.shapes.proofs.second.Statement.{statement}
 use Rattle.shapes.proofs.second.Tie as tie
 

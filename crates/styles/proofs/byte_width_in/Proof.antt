@@ -1,9 +1,5 @@
 -- `styles::byte_width_in` meets its contract. The loop's invariant: the width so far is that of the style so far.
-use Prim.Native.Nat.{_-_}
-use mathlib.Core.Logic.{⊎-elim}
-use native.Mathlib.Omega.{arith}
-use lib.ListN.{length}
-use borrow.Author.Needs.{needs}
+use Rattle.rules.proofs.Basics.{_-_, ⊎-elim, arith, length, needs}
 use Rattle.fields.proofs.Laws.{whole-inside, rises, ends}
 use Rattle.styles.proofs.Widths.{Measured, measured-start, measured-next, measured-stopped, measured-ended}
 use Rattle.styles.proofs.byte_width_in.Statement.{statement}

@@ -1,9 +1,5 @@
 -- `styles::read_styles` meets its contract. The loop's invariant: the style so far, with the fields from the place on, makes the style of all.
-use Prim.Native.Nat.{_-_}
-use mathlib.Core.Logic.{⊎-elim}
-use native.Mathlib.Omega.{arith}
-use lib.ListN.{length}
-use borrow.Author.Needs.{needs}
+use Rattle.rules.proofs.Basics.{_-_, ⊎-elim, arith, length, needs}
 use Rattle.styles.specs.Said.{said-styles}
 use Rattle.styles.proofs.Reading.{Left, all-left, next-left, stopped, ended}
 use Rattle.fields.proofs.Laws.{whole-inside, rises, ends}

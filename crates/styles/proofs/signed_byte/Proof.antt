@@ -1,8 +1,7 @@
 -- `styles::signed_byte` meets its contract.
 use Rattle.styles.proofs.Sizes.{less-fits, stored-fits, high-byte}
-use borrow.Author.Tests.{lt-ltb}
+use Rattle.rules.proofs.Basics.{lt-ltb, needs}
 use Rattle.rules.specs.Digits.{signed}
-use borrow.Author.Needs.{needs}
 use Rattle.styles.proofs.signed_byte.Statement.{statement}
 use Rattle.styles.proofs.signed_byte.Tie as tie
 

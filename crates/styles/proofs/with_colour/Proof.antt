@@ -1,11 +1,10 @@
 -- `styles::with_colour` meets its contract: another length is passed over, and three bytes are the value.
-use borrow.Author.Tests.{ne-eqb}
+use Rattle.rules.proofs.Basics.{ne-eqb, needs}
 use Rattle.styles.specs.Said.{said-styles, flagged}
 use Rattle.styles.specs.StylesIn.{right-value, put-part}
 use Rattle.rules.specs.Walk.{right-length}
 use Rattle.styles.proofs.Lengths.{three}
 use Rattle.styles.proofs.Parts.{passed-over, put-colour}
-use borrow.Author.Needs.{needs}
 use Rattle.styles.proofs.with_colour.Statement.{statement}
 use Rattle.styles.proofs.with_colour.Tie as tie
 

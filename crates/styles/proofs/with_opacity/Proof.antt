@@ -1,12 +1,10 @@
 -- `styles::with_opacity` meets its contract: another length, or bits that are not allowed, are passed over; the float of allowed bits has those bits.
-use mathlib.Core.Path.{sym, _∙_}
-use borrow.Author.Tests.{eq-eqb, ne-eqb}
+use Rattle.rules.proofs.Basics.{sym, _∙_, eq-eqb, ne-eqb, needs}
 use Rattle.styles.specs.Said.{said-styles, flagged}
 use Rattle.styles.specs.StylesIn.{right-value, put-part}
 use Rattle.rules.specs.Walk.{right-length}
 use Rattle.styles.proofs.Opacity.{right-below, no-nan, bits-back}
 use Rattle.styles.proofs.Parts.{passed-over, put-in}
-use borrow.Author.Needs.{needs}
 use Rattle.styles.proofs.with_opacity.Statement.{statement}
 use Rattle.styles.proofs.with_opacity.Tie as tie
 

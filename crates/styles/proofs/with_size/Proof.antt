@@ -1,7 +1,7 @@
 -- `styles::with_size` meets its contract: another length, or a size that is not allowed, is passed over; one byte is the value.
 use mir.Syntax.{w8}
 use mir.ValLaws.{toZ-ofZ}
-use borrow.Author.Tests.{eq-eqb, ne-eqb}
+use Rattle.rules.proofs.Basics.{eq-eqb, ne-eqb, needs}
 use Rattle.styles.specs.Said.{said-styles, flagged}
 use Rattle.styles.specs.StylesIn.{right-value, put-part}
 use Rattle.rules.specs.Walk.{right-length}
@@ -9,7 +9,6 @@ use Rattle.rules.specs.Tree.{signed-byte}
 use Rattle.styles.proofs.Lengths.{number-one}
 use Rattle.styles.proofs.Parts.{passed-over, put-in}
 use Rattle.styles.proofs.Sizes.{size-tested}
-use borrow.Author.Needs.{needs}
 use Rattle.styles.proofs.with_size.Statement.{statement}
 use Rattle.styles.proofs.with_size.Tie as tie
 

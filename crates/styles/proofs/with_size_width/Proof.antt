@@ -1,13 +1,10 @@
 -- `styles::with_size_width` meets its contract: by where the byte stands.
-use native.Mathlib.Omega.{arith}
-use mathlib.Core.Path.{refl}
+use Rattle.rules.proofs.Basics.{arith, refl, eq-eqb, ne-eqb, lt-leb, needs}
 use Rattle.styles.proofs.Widths.{low-size, negative-size}
 use Rattle.styles.proofs.Lengths.{number-one}
-use borrow.Author.Tests.{eq-eqb, ne-eqb, lt-leb}
 use Rattle.rules.specs.Walk.{right-length, right-size}
 use Rattle.styles.specs.StylesIn.{right-value}
 use Rattle.styles.specs.WidthIn.{width-with}
-use borrow.Author.Needs.{needs}
 use Rattle.styles.proofs.with_size_width.Statement.{statement}
 use Rattle.styles.proofs.with_size_width.Tie as tie
 

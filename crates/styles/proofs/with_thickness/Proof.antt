@@ -1,12 +1,11 @@
 -- `styles::with_thickness` meets its contract: another length is passed over, and one byte is the value.
-use borrow.Author.Tests.{eq-eqb, ne-eqb}
+use Rattle.rules.proofs.Basics.{eq-eqb, ne-eqb, needs}
 use Rattle.styles.specs.Said.{said-styles, flagged}
 use Rattle.styles.specs.StylesIn.{right-value, put-part}
 use Rattle.rules.specs.Walk.{right-length}
 use Rattle.rules.specs.Tree.{signed-byte}
 use Rattle.styles.proofs.Lengths.{number-one}
 use Rattle.styles.proofs.Parts.{passed-over, put-in}
-use borrow.Author.Needs.{needs}
 use Rattle.styles.proofs.with_thickness.Statement.{statement}
 use Rattle.styles.proofs.with_thickness.Tie as tie
 

@@ -1,8 +1,5 @@
 -- `telling::tell_bytes` meets its contract: byte by byte to the end.
-use Prim.Native.Nat.{_≤_, _-_}
-use lib.ListN.{length}
-use native.Mathlib.Omega.{arith}
-use borrow.Author.Needs.{needs}
+use Rattle.rules.proofs.Basics.{_≤_, _-_, length, arith, needs}
 use Rattle.telling.proofs.tell_bytes.Statement.{statement}
 use Rattle.telling.proofs.tell_bytes.Tie as tie
 

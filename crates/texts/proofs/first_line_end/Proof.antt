@@ -1,7 +1,5 @@
 -- `texts::first_line_end` meets its contract. The loop's invariant: the bytes passed have no newline.
-use Prim.Native.Nat.{_-_}
-use lib.ListN.{length}
-use borrow.Author.Needs.{needs}
+use Rattle.rules.proofs.Basics.{_-_, length, needs}
 use Rattle.texts.specs.FirstLine.{Passed}
 use Rattle.texts.proofs.Passing.{found, passed, none-found}
 use Rattle.texts.proofs.first_line_end.Statement.{statement}

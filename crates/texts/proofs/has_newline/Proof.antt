@@ -1,9 +1,5 @@
 -- `texts::has_newline` meets its contract. The loop's invariant: a newline is among the bytes exactly if one was found or is still ahead.
-use mathlib.Core.Logic.{⊎-elim}
-use Prim.Native.Nat.{_-_}
-use native.Mathlib.Omega.{arith}
-use lib.ListN.{length}
-use borrow.Author.Needs.{needs}
+use Rattle.rules.proofs.Basics.{⊎-elim, _-_, arith, length, needs}
 use Rattle.texts.proofs.Chunks.{Looked, none-looked, there, not-there, all-looked}
 use Rattle.texts.proofs.has_newline.Statement.{statement}
 use Rattle.texts.proofs.has_newline.Tie as tie

@@ -1,8 +1,5 @@
 -- `texts::skip` meets its contract. The loop's invariant: the chunks passed have no newline.
-use Prim.Native.Nat.{_-_}
-use native.Mathlib.Omega.{arith}
-use lib.ListN.{length, length-take, length-drop}
-use borrow.Author.Needs.{needs}
+use Rattle.rules.proofs.Basics.{_-_, arith, length, length-take, length-drop, needs}
 use Rattle.texts.specs.FirstLine.{Passed}
 use Rattle.texts.proofs.Chunks.{none-passed, chunk-passed}
 use Rattle.texts.proofs.skip.Statement.{statement}

@@ -1,8 +1,5 @@
 -- `utf8::all_bits` meets its contract. The loop's invariant: the bits so far, with those of the bytes from i on, are all.
-use mathlib.Core.Path.{_≡_, refl}
-use Prim.Native.Nat.{_≤_, _-_}
-use lib.ListN.{length, drop}
-use borrow.Author.Needs.{needs}
+use Rattle.rules.proofs.Basics.{_≡_, refl, _≤_, _-_, length, drop, needs}
 use Rattle.utf8.specs.AllBits.{bits-with, all-bits}
 use Rattle.utf8.proofs.Ascii.{one-or, all-or}
 use Rattle.utf8.proofs.all_bits.Statement.{statement}

@@ -1,7 +1,5 @@
 -- `utf8::begin` meets its contract: the bytes of each arm's range are all followed alike, as `following` computes at each of them.
-use mathlib.Core.Path.{refl}
-use native.Mathlib.Omega.{arith}
-use borrow.Author.Needs.{needs}
+use Rattle.rules.proofs.Basics.{refl, arith, needs}
 use Rattle.rules.specs.Utf8.{following}
 use Rattle.utf8.specs.declared.Begun.the-variants.{Never}
 use Rattle.utf8.specs.Owing.{ranges}

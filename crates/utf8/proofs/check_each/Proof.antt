@@ -1,9 +1,6 @@
 -- `utf8::check_each` meets its contract. The loop's invariant: the bytes from i on are right after what is still wanted exactly if the
 -- whole is UTF-8.
-use mathlib.Core.Path.{_≡_, refl}
-use Prim.Native.Nat.{_≤_, _-_}
-use lib.ListN.{length, drop}
-use borrow.Author.Needs.{needs}
+use Rattle.rules.proofs.Basics.{_≡_, refl, _≤_, _-_, length, drop, needs}
 use Rattle.rules.specs.Utf8.{utf8, utf8-after}
 use Rattle.utf8.specs.Owing.{ranges, wanted-by}
 use Rattle.utf8.proofs.Turns.{never, goes-on, whole, cut}

@@ -1,8 +1,5 @@
 -- `utf8::has_quote` meets its contract. The loop's invariant: the bytes from i on have a quote exactly if the whole has.
-use mathlib.Core.Path.{_≡_, refl}
-use Prim.Native.Nat.{_≤_, _-_}
-use lib.ListN.{length, drop}
-use borrow.Author.Needs.{needs}
+use Rattle.rules.proofs.Basics.{_≡_, refl, _≤_, _-_, length, drop, needs}
 use Rattle.rules.specs.Bytes.{has}
 use Rattle.utf8.proofs.Turns.{found, passed, not-there}
 use Rattle.utf8.proofs.has_quote.Statement.{statement}

@@ -1,6 +1,5 @@
 -- `utf8::step` meets its contract: a branch each for a first byte, a byte below and above its range, and a byte in it.
-use mathlib.Core.Path.{_∙_, ap}
-use borrow.Author.Needs.{needs}
+use Rattle.rules.proofs.Basics.{_∙_, ap, needs}
 use Rattle.utf8.specs.Owing.{wanted}
 use Rattle.utf8.proofs.Steps.{first, too-low, too-high, right}
 use Rattle.utf8.proofs.step.Statement.{statement}

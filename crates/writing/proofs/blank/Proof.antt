@@ -1,8 +1,5 @@
 -- `writing::blank` meets its contract. The loop's invariant: i spaces are written.
-use mathlib.Core.Path.{refl}
-use Prim.Native.Nat.{_-_, _<_}
-use lib.ListN.{length, replicate, length-replicate, getD-replicate}
-use borrow.Author.Needs.{needs}
+use Rattle.rules.proofs.Basics.{refl, _-_, _<_, length, replicate, length-replicate, getD-replicate, needs}
 use Rattle.writing.proofs.Copies.{Copied, none-copied, one-more, all-copied}
 use Rattle.writing.proofs.blank.Statement.{statement}
 use Rattle.writing.proofs.blank.Tie as tie

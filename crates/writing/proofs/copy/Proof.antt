@@ -1,8 +1,5 @@
 -- `writing::copy` meets its contract. The loop's invariant: the first i bytes are copied.
-use mathlib.Core.Path.{refl}
-use Prim.Native.Nat.{_-_}
-use lib.ListN.{length}
-use borrow.Author.Needs.{needs}
+use Rattle.rules.proofs.Basics.{refl, _-_, length, needs}
 use Rattle.writing.proofs.Copies.{Copied, none-copied, one-more, all-copied}
 use Rattle.writing.proofs.copy.Statement.{statement}
 use Rattle.writing.proofs.copy.Tie as tie

@@ -1,6 +1,5 @@
 -- `writing::moved_on` meets its contract: the position moves n on, but not past the last.
-use native.Mathlib.Omega.{arith}
-use borrow.Author.Needs.{needs}
+use Rattle.rules.proofs.Basics.{arith, needs}
 use Rattle.writing.specs.Written.{moved}
 use Rattle.writing.proofs.moved_on.Statement.{statement}
 use Rattle.writing.proofs.moved_on.Tie as tie

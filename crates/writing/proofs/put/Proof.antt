@@ -1,6 +1,5 @@
 -- `writing::put` meets its contract: within the page the byte is stored, past its end it is dropped.
-use mathlib.Core.Logic.{⊎-elim}
-use borrow.Author.Needs.{needs}
+use Rattle.rules.proofs.Basics.{⊎-elim, needs}
 use Rattle.writing.proofs.Laws.{kept}
 use Rattle.writing.proofs.Turns.{stored, dropped}
 use Rattle.writing.proofs.put.Statement.{statement}

@@ -1,10 +1,5 @@
 -- `writing::put_bytes` meets its contract: what fits is copied, and the position moves by the whole length.
-use mathlib.Core.Path.{refl, sym}
-use mathlib.Core.Logic.{⊎-elim}
-use native.Mathlib.Omega.{arith}
-use lib.ListN.{length-take, length-drop}
-use lib.Seq.{length-take-le}
-use borrow.Author.Needs.{needs}
+use Rattle.rules.proofs.Basics.{refl, sym, ⊎-elim, arith, length-take, length-drop, length-take-le, needs}
 use Rattle.writing.proofs.Laws.{kept}
 use Rattle.writing.proofs.Parts.{all-fits, some-fits, past-the-end}
 use Rattle.writing.proofs.put_bytes.Statement.{statement}

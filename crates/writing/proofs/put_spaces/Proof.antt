@@ -1,8 +1,5 @@
 -- `writing::put_spaces` meets its contract: the spaces that fit are written, and the position moves by them all.
-use mathlib.Core.Logic.{⊎-elim}
-use native.Mathlib.Omega.{arith}
-use lib.ListN.{length-replicate}
-use borrow.Author.Needs.{needs}
+use Rattle.rules.proofs.Basics.{⊎-elim, arith, length-replicate, needs}
 use Rattle.writing.proofs.Laws.{kept}
 use Rattle.writing.proofs.Parts.{all-spaces-fit, some-spaces-fit, past-the-end}
 use Rattle.writing.proofs.put_spaces.Statement.{statement}

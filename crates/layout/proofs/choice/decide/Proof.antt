@@ -1,10 +1,9 @@
 -- `layout::choice::decide` meets its contract: a block, a candidate that does not fit, and one that does.
-use mathlib.Core.Path.{refl}
+use Rattle.rules.proofs.Basics.{refl, needs}
 use Rattle.shapes.proofs.Numbers.{line, lines}
 use Rattle.layout.specs.Said.{said}
 use Rattle.layout.specs.LaidIn.{decided}
 use Rattle.layout.proofs.ChoiceLaws.{decided-over, decided-within}
-use borrow.Author.Needs.{needs}
 use Rattle.layout.proofs.choice.decide.Statement.{statement}
 use Rattle.layout.proofs.choice.decide.Tie as tie
 

@@ -1,8 +1,7 @@
 -- `layout::choice::room` meets its contract: by the shape so far.
-use mathlib.Core.Path.{refl}
+use Rattle.rules.proofs.Basics.{refl, needs}
 use Rattle.shapes.proofs.Numbers.{line, lines}
 use Rattle.rules.specs.Layout.{room}
-use borrow.Author.Needs.{needs}
 use Rattle.layout.proofs.choice.room.Statement.{statement}
 use Rattle.layout.proofs.choice.room.Tie as tie
 

@@ -1,10 +1,6 @@
 -- `approx_flex_layout`, `approx_fragments_layout` and `approx_layout` meet their contracts: the blocks that are left fall; the loops' invariants are
 -- `Part` and, with the stretch, `Going`.
-use native.Mathlib.Omega.{arith}
-use lib.ListN.{length}
-use borrow.Author.Needs.{needs}
-use mathlib.Core.Path.{_∙_}
-use Prim.Native.Nat.{ℕ, _+_, _*_, _-_}
+use Rattle.rules.proofs.Basics.{arith, length, needs, _∙_, ℕ, _+_, _*_, _-_}
 use borrow.Fn.PlainCycle.{Measures}
 use Rattle.fields.proofs.Cycles.{at, below}
 use Rattle.rules.specs.Layout.{Inline}

@@ -1,9 +1,5 @@
 -- `layout::stretch::ahead` meets its contract. The loop's invariant: what is left of the stretch.
-use mathlib.Core.Path.{refl}
-use Prim.Native.Nat.{_-_}
-use native.Mathlib.Omega.{arith}
-use lib.ListN.{length}
-use borrow.Author.Needs.{needs}
+use Rattle.rules.proofs.Basics.{refl, _-_, arith, length, needs}
 use Rattle.shapes.specs.Shapes.{shape}
 use Rattle.shapes.proofs.Numbers.{line, lines}
 use Rattle.parts.proofs.Spans.{end-rises, end-within, end-less}

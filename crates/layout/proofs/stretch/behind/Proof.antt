@@ -1,9 +1,8 @@
 -- `layout::stretch::behind` meets its contract: behind its block, or behind another node.
 use Rattle.layout.specs.Said.{said-stretch}
 use Rattle.layout.proofs.StretchLaws.{behind-block}
-use borrow.Author.Tests.{ne-eqb}
+use Rattle.rules.proofs.Basics.{ne-eqb, needs}
 use Rattle.layout.specs.LaidIn.{behind-in}
-use borrow.Author.Needs.{needs}
 use Rattle.layout.proofs.stretch.behind.Statement.{statement}
 use Rattle.layout.proofs.stretch.behind.Tie as tie
 

@@ -1,7 +1,5 @@
 -- `layout::whole::layout_with_max_line_width` meets its contract: the two tests, the check, and the tree's layout by its bytes.
-use native.Mathlib.Omega.{arith}
-use borrow.Author.Needs.{needs}
-use borrow.Author.Tests.{le-leb, lt-leb}
+use Rattle.rules.proofs.Basics.{arith, needs, le-leb, lt-leb}
 use Rattle.rules.specs.Answers.{laid-out, left-laid, layout-outcome}
 use Rattle.rules.specs.Result.{_>>=_, _>>_, need, said, refusal}
 use Rattle.verify.proofs.Verdicts.{every-byte}

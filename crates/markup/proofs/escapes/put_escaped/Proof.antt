@@ -1,8 +1,5 @@
 -- `markup::escapes::put_escaped` meets its contract. The loop's invariant: the first i bytes of the text are written.
-use Prim.Native.Nat.{_≤_, _-_}
-use native.Mathlib.Omega.{arith}
-use lib.ListN.{length, take}
-use borrow.Author.Needs.{needs}
+use Rattle.rules.proofs.Basics.{_≤_, _-_, arith, length, take, needs}
 use Rattle.writing.specs.Written.{Written}
 use Rattle.writing.proofs.Laws.{kept}
 use Rattle.markup.proofs.EscapeLaws.{escaped-text, none-yet, all}

@@ -1,7 +1,6 @@
 -- `pages::pen::interpret_mark` meets its contract: nothing shows, or it is interpreted.
-use mathlib.Core.Path.{sym, _∙_}
+use Rattle.rules.proofs.Basics.{sym, _∙_, needs}
 use Rattle.pages.proofs.Pens.{quiet-mark}
-use borrow.Author.Needs.{needs}
 use Rattle.pages.proofs.pen.interpret_mark.Statement.{statement}
 use Rattle.pages.proofs.pen.interpret_mark.Tie as tie
 

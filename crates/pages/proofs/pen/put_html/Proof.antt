@@ -1,5 +1,5 @@
 -- `pages::pen::put_html` meets its contract: by the operation.
-use mathlib.Core.Path.{sym, subst}
+use Rattle.rules.proofs.Basics.{sym, subst, needs}
 use Rattle.styles.specs.Said.{Writable}
 use Rattle.styles.proofs.StylesWritable.{styles-writable}
 use Rattle.writing.proofs.Laws.{nothing}
@@ -9,7 +9,6 @@ use Rattle.lines.specs.Said.{copies, own}
 use Rattle.pages.specs.Ran.{shown}
 use Rattle.markup.proofs.Fills.{fill-makes}
 use Rattle.pages.proofs.Pens.{html-mark}
-use borrow.Author.Needs.{needs}
 use Rattle.pages.proofs.pen.put_html.Statement.{statement}
 use Rattle.pages.proofs.pen.put_html.Tie as tie
 

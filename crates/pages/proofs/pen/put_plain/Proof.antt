@@ -1,9 +1,7 @@
 -- `pages::pen::put_plain` meets its contract: a part's bytes, and of any other operation nothing.
-use mathlib.Core.Logic.{⊎-elim}
-use native.Mathlib.Omega.{arith}
+use Rattle.rules.proofs.Basics.{⊎-elim, arith, needs}
 use Rattle.lines.specs.Said.{own}
 use Rattle.pages.proofs.Pens.{shown-copies, shows-nothing}
-use borrow.Author.Needs.{needs}
 use Rattle.pages.proofs.pen.put_plain.Statement.{statement}
 use Rattle.pages.proofs.pen.put_plain.Tie as tie
 

@@ -1,7 +1,6 @@
 -- `pages::state::form_number` meets its contract, form by form.
-use native.Mathlib.Omega.{arith}
+use Rattle.rules.proofs.Basics.{arith, needs}
 use Rattle.pages.specs.States.{form-numbered}
-use borrow.Author.Needs.{needs}
 use Rattle.pages.proofs.state.form_number.Statement.{statement}
 use Rattle.pages.proofs.state.form_number.Tie as tie
 

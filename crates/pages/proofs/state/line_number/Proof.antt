@@ -1,9 +1,8 @@
 -- `pages::state::line_number` meets its contract, line by line.
-use native.Mathlib.Omega.{arith}
+use Rattle.rules.proofs.Basics.{arith, needs}
 use Rattle.lines.specs.Said.{line-of}
 use Rattle.pages.specs.States.{line-numbered}
 use Rattle.pages.proofs.StateLaws.{indented-number}
-use borrow.Author.Needs.{needs}
 use Rattle.pages.proofs.state.line_number.Statement.{statement}
 use Rattle.pages.proofs.state.line_number.Tie as tie
 

@@ -1,9 +1,8 @@
 -- `pages::state::line_numbered` meets its contract: 0, 1, and the levels above.
-use native.Mathlib.Omega.{arith}
+use Rattle.rules.proofs.Basics.{arith, needs}
 use Rattle.lines.specs.Said.{line-of}
 use Rattle.pages.specs.States.{line-numbered}
 use Rattle.pages.proofs.StateLaws.{indented-said}
-use borrow.Author.Needs.{needs}
 use Rattle.pages.proofs.state.line_numbered.Statement.{statement}
 use Rattle.pages.proofs.state.line_numbered.Tie as tie
 

@@ -1,7 +1,6 @@
 -- `pages::state::machine_in` meets its contract: the parts of the number.
-use native.Mathlib.Omega.{arith}
+use Rattle.rules.proofs.Basics.{arith, needs}
 use Rattle.pages.proofs.StateLaws.{machine-said}
-use borrow.Author.Needs.{needs}
 use Rattle.pages.proofs.state.machine_in.Statement.{statement}
 use Rattle.pages.proofs.state.machine_in.Tie as tie
 

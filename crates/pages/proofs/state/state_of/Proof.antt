@@ -1,7 +1,6 @@
 -- `pages::state::state_of` meets its contract: each part comes out as it was put in.
-use mathlib.Core.Path.{refl}
+use Rattle.rules.proofs.Basics.{refl, needs}
 use Rattle.pages.proofs.StateLaws.{state-said}
-use borrow.Author.Needs.{needs}
 use Rattle.pages.proofs.state.state_of.Statement.{statement}
 use Rattle.pages.proofs.state.state_of.Tie as tie
 

@@ -1,8 +1,7 @@
 -- `pages::state::waiting_number` meets its contract, break by break.
-use native.Mathlib.Omega.{arith}
+use Rattle.rules.proofs.Basics.{arith, needs}
 use Rattle.lines.specs.Said.{waiting-of}
 use Rattle.pages.specs.States.{waiting-numbered}
-use borrow.Author.Needs.{needs}
 use Rattle.pages.proofs.state.waiting_number.Statement.{statement}
 use Rattle.pages.proofs.state.waiting_number.Tie as tie
 

@@ -1,14 +1,10 @@
 -- `render_node`, `render_indented`, `render_fragments` and `render_fragment` meet their contracts: the blocks that are left fall; each loop's invariant is `Going`.
-use native.Mathlib.Omega.{arith}
-use lib.ListN.{length}
-use borrow.Author.Needs.{needs}
+use Rattle.rules.proofs.Basics.{arith, length, needs, le-leb, lt-leb, ℕ, _+_, _*_, _-_}
 use Rattle.parts.proofs.Spans.{end-rises, end-within, end-less}
-use borrow.Author.Tests.{le-leb, lt-leb}
 use Rattle.pages.specs.OpsIn.{node-by, fragments-by, node-in, three-in, fragment-in}
 use Rattle.pages.proofs.Running.{nothing, and-then, kept, quietly, deeper}
 use Rattle.pages.proofs.Going.{Going, going-starts, going-more, going-ends}
 use Rattle.pages.proofs.WalkLaws.{four-in, node-is, node-four, node-leaf, a-three, fragment-ops}
-use Prim.Native.Nat.{ℕ, _+_, _*_, _-_}
 use borrow.Fn.PlainCycle.{Measures}
 use Rattle.fields.proofs.Cycles.{at, below}
 use Rattle.pages.proofs.walk.render_fragment.Reads as render-fragment

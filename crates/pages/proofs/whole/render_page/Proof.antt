@@ -1,9 +1,8 @@
 -- `pages::whole::render_page` meets its contract: the check, the measure, and the page.
-use native.Mathlib.Omega.{arith}
+use Rattle.rules.proofs.Basics.{arith, needs}
 use Rattle.rules.specs.Result.{said, refusal}
 use Rattle.verify.proofs.Verdicts.{every-byte}
 use Rattle.pages.proofs.WholeLaws.{page-refused, page-too-short, page-written}
-use borrow.Author.Needs.{needs}
 use Rattle.pages.proofs.whole.render_page.Statement.{statement}
 use Rattle.pages.proofs.whole.render_page.Tie as tie
 

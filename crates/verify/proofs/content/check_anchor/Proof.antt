@@ -1,7 +1,6 @@
 -- `verify::content::check_anchor` meets its contract: UTF-8 comes before the quote.
-use mathlib.Core.Path.{sym, _∙_}
+use Rattle.rules.proofs.Basics.{sym, _∙_, needs}
 use Rattle.verify.proofs.ContentLaws.{broken-anchor, quoted-anchor, sound-anchor}
-use borrow.Author.Needs.{needs}
 use Rattle.rules.specs.Result.{refusal}
 use Rattle.verify.specs.Said.{checked}
 use Rattle.verify.proofs.content.check_anchor.Statement.{statement}

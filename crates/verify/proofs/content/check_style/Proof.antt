@@ -1,10 +1,7 @@
 -- `verify::content::check_style` meets its contract: the length, then what the tag asks for.
-use mathlib.Core.Path.{sym, _∙_, ap}
-use native.Mathlib.Omega.{arith}
-use borrow.Author.Tests.{not-true, not-false}
+use Rattle.rules.proofs.Basics.{sym, _∙_, ap, arith, not-true, not-false, needs}
 use Rattle.rules.specs.Walk.{right-opacity, right-size}
 use Rattle.verify.proofs.ContentLaws.{opacity-length, size-length, length-wrong, by-content, opacity-sound, opacity-faulty, size-sound, size-faulty, no-content}
-use borrow.Author.Needs.{needs}
 use Rattle.rules.specs.Result.{refusal}
 use Rattle.verify.specs.Said.{checked}
 use Rattle.verify.proofs.content.check_style.Statement.{statement}

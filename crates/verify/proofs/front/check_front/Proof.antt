@@ -1,9 +1,6 @@
 -- `verify::front::check_front` meets its contract: the first test that fails answers.
-use mathlib.Core.Path.{refl}
-use native.Mathlib.Omega.{arith}
-use borrow.Author.Tests.{not-true, not-false}
+use Rattle.rules.proofs.Basics.{refl, arith, not-true, not-false, needs}
 use Rattle.verify.proofs.FrontLaws.{cut-header, past-header, wrong-header, right-header}
-use borrow.Author.Needs.{needs}
 use Rattle.rules.specs.Result.{refusal}
 use Rattle.verify.specs.Said.{checked}
 use Rattle.verify.proofs.front.check_front.Statement.{statement}

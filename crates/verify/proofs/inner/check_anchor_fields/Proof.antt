@@ -1,10 +1,7 @@
 -- `verify::inner::check_anchor_fields` meets its contract: the loop's invariant is `Come`, with the last tag.
-use native.Mathlib.Omega.{arith}
-use lib.ListN.{length}
-use borrow.Author.Needs.{needs}
+use Rattle.rules.proofs.Basics.{arith, length, needs, ℕ, _-_}
 use Rattle.rules.specs.Result.{refusal}
 use Rattle.verify.specs.Said.{checked}
-use Prim.Native.Nat.{ℕ, _-_}
 use Rattle.rules.specs.Walk.{in-anchor}
 use Rattle.verify.proofs.SeenLaws.{HasName, no-name, name-more, name-lacks, name-there}
 use Rattle.verify.proofs.LoopLaws.{Come, come-first, come-last, come-stops, come-passes, come-on, field-stands}

@@ -1,8 +1,5 @@
 -- `verify::inner::check_styles` meets its contract: the loop's invariant is `Come`, with the record of the tags.
-use native.Mathlib.Omega.{arith}
-use lib.ListN.{length}
-use borrow.Author.Needs.{needs}
-use Prim.Native.Nat.{ℕ, _-_}
+use Rattle.rules.proofs.Basics.{arith, length, needs, ℕ, _-_}
 use Rattle.rules.specs.Walk.{in-styles}
 use Rattle.verify.proofs.SeenLaws.{Sees}
 use Rattle.verify.proofs.LoopLaws.{Come, come-stops, come-passes, field-stands, styles-first, styles-on, styles-last}

@@ -1,10 +1,7 @@
 -- `verify::inner::check_text_fields` meets its contract: the loop's invariant is `Come`, with the last tag.
-use native.Mathlib.Omega.{arith}
-use lib.ListN.{length}
-use borrow.Author.Needs.{needs}
+use Rattle.rules.proofs.Basics.{arith, length, needs, ℕ, _-_}
 use Rattle.rules.specs.Result.{refusal}
 use Rattle.verify.specs.Said.{checked}
-use Prim.Native.Nat.{ℕ, _-_}
 use Rattle.rules.specs.Walk.{in-text}
 use Rattle.verify.proofs.SeenLaws.{EndsText, no-text, text-more, text-ends, text-lacks}
 use Rattle.verify.proofs.LoopLaws.{Come, come-first, come-last, come-stops, come-passes, come-on, field-stands}

@@ -1,7 +1,6 @@
 -- `verify::seen::complete_styles` meets its contract: missing colour comes before two scripts.
-use mathlib.Core.Path.{sym, _∙_}
+use Rattle.rules.proofs.Basics.{sym, _∙_, needs}
 use Rattle.verify.proofs.SeenLaws.{no-colour, two-scripts, whole-style}
-use borrow.Author.Needs.{needs}
 use Rattle.rules.specs.Result.{refusal}
 use Rattle.verify.specs.Said.{checked}
 use Rattle.verify.proofs.seen.complete_styles.Statement.{statement}

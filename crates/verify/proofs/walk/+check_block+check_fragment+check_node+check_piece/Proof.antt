@@ -1,9 +1,6 @@
 -- `verify::walk::check_block`, `check_fragment`, `check_node` and `check_piece` meet their contracts: the loops' invariant is `Reached`, and the length of the value falls at each call.
-use Prim.Native.Nat.{ℕ, _+_, _*_, _-_}
-use native.Mathlib.Omega.{arith}
-use lib.ListN.{length}
+use Rattle.rules.proofs.Basics.{ℕ, _+_, _*_, _-_, arith, length, needs}
 use denote.Ref.{now}
-use borrow.Author.Needs.{needs}
 use borrow.Fn.PlainCycle.{Measures}
 use Rattle.rules.specs.Walk.{in-fragment, in-block}
 use Rattle.verify.proofs.Cycles.{at, below}

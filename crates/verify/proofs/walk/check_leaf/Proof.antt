@@ -1,6 +1,5 @@
 -- `verify::walk::check_leaf` meets its contract: by the tag.
-use mathlib.Core.Path.{refl}
-use borrow.Author.Needs.{needs}
+use Rattle.rules.proofs.Basics.{refl, needs}
 use Rattle.rules.specs.Result.{refusal}
 use Rattle.verify.specs.Said.{checked}
 use Rattle.verify.proofs.ValueLaws.{run-value, anchor-value, note-value, empty-value, filled-value}
