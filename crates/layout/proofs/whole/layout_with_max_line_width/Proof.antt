@@ -10,8 +10,8 @@ use Rattle.layout.proofs.whole.layout_with_max_line_width.Tie as tie
 
 pub layout-with-max-line-width-spec : {M : Type 1} → statement M
 layout-with-max-line-width-spec = tie.close (tie.spec
-    (λ c. unfold said refusal layout-outcome laid-out left-laid need _>>_ _>>=_ in rw (lt-leb _ _ (c .if1 .taken)))
-    (λ c. unfold said refusal layout-outcome laid-out left-laid need _>>_ _>>=_ in rw (le-leb _ _ (c .before .if1 .left), lt-leb _ _ (c .if2 .taken))) (λ c κs. search needs) (λ c. search needs) (λ c. search needs)
+    (λ c. unfold said refusal layout-outcome laid-out left-laid need _>>_ _>>=_ in rw (lt-leb _ 60_000 (c .if1 .taken)))
+    (λ c. unfold said refusal layout-outcome laid-out left-laid need _>>_ _>>=_ in rw (le-leb _ 60_000 (c .before .if1 .left), lt-leb _ 6_553 (c .if2 .taken))) (λ c κs. search needs) (λ c. search needs) (λ c. search needs)
     (λ c. search needs)
     (λ c. refused-outcome _ _ (c .before .before .before .before .before .if1 .left) (c .before .before .before .before .if2 .left) _ (c .enum-told .given .1) (c .before .before .check .ensures))
     (λ c κs. search needs) (λ c κs. search needs) (λ c. search needs) (λ c. search needs)
