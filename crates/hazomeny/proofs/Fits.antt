@@ -1,6 +1,7 @@
 -- Every answer's number fits 64 bits and loses nothing: places and counts are at most a file's length, a page is shorter than 2^50 bytes, and refusals
 -- have numbers of 1 to 255.
 use Rattle.rules.proofs.Basics.{_≡_, refl, sym, subst, _∙_, ap, List, Bool, true, false, ℕ, _^_, _<_, arith, leb, length, getD, leb-true}
+use Rattle.rules.specs.Limits.{most-bytes, most-columns}
 use Rattle.rules.specs.Bytes.{newline}
 use Rattle.rules.specs.Result.{Result, refused, accepted, _>>=_, _>>_, need}
 use Rattle.rules.specs.Tree.{Frag}
@@ -43,14 +44,14 @@ told-check s = go (tree s) refl
 
 pub told-layout : (w : ℕ) (s : List ℕ) → Told (layout-outcome w s .0)
 unfolding layout-outcome laid-out left-laid coded need _>>_ _>>=_
-told-layout w s = go (leb (length s) 60_000) (leb w 6_553) (tree s) refl refl
+told-layout w s = go (leb (length s) most-bytes) (leb w most-columns) (tree s) refl refl
   where
-    go : (b c : Bool) (x : Result (Frag ℕ)) → leb (length s) 60_000 ≡ b → tree s ≡ x
+    go : (b c : Bool) (x : Result (Frag ℕ)) → leb (length s) most-bytes ≡ b → tree s ≡ x
         → Told (left-laid s (need b 1 0 >> (need c 2 0 >> (x >>= (λ t. accepted (layout newline w t))))) .0)
     go false c x e f = omega arith
     go true false x e f = omega arith
     go true true (refused n p) e f = told-refused s n p f
-    go true true (accepted t) e f = omega (arith, changed-le 0 s (encode (layout newline w t)), leb-true (length s) 60_000 e)
+    go true true (accepted t) e f = omega (arith, changed-le 0 s (encode (layout newline w t)), leb-true (length s) most-bytes e)
 
 told-written : (fits : Bool) (text page : List ℕ) → length text < 2 ^ 50 → Told (written fits text page .0)
 unfolding written coded

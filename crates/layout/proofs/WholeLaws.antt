@@ -1,5 +1,6 @@
 -- Layout of a whole file: what is refused, and what an accepted file becomes.
 use Rattle.rules.proofs.Basics.{_≡_, refl, sym, ap, _∙_, List, ℕ, _*_, _≤_, length, le-leb}
+use Rattle.rules.specs.Limits.{most-bytes, most-columns}
 use Rattle.rules.specs.Bytes.{newline}
 use Rattle.rules.specs.declared.Refusal.{Refusal}
 use Rattle.rules.specs.declared.Answer.{Answer}
@@ -17,10 +18,10 @@ use Rattle.layout.specs.LaidIn.{Laid, fragment-in}
 use Rattle.layout.proofs.OfTrees.{laid-tree}
 
 -- past the two tests the walk decides
-module _ (w : ℕ) (s : List ℕ) (h : length s ≤ 60_000) (g : w ≤ 6_553) where
+module _ (w : ℕ) (s : List ℕ) (h : length s ≤ most-bytes) (g : w ≤ most-columns) where
   checked-outcome : layout-outcome w s ≡ left-laid s (tree s >>= (λ t. accepted (layout newline w t)))
   unfolding layout-outcome laid-out need _>>_ _>>=_
-  checked-outcome = rw (le-leb (length s) 60_000 h, le-leb w 6_553 g) refl
+  checked-outcome = rw (le-leb (length s) most-bytes h, le-leb w most-columns g) refl
 
   pub refused-outcome : (a : Answer) {r : Refusal} → a ≡ Refused r → said a ≡ check-answer s → (said a, s) ≡ layout-outcome w s
   unfolding left-laid _>>=_

@@ -1,6 +1,5 @@
 -- What the pen writes: a waiting break, a line's spaces, an operation's own bytes, and all of one operation.
 use Rattle.rules.proofs.Basics.{_≡_, refl, sym, ap, _∙_, List, [], _∷_, _++_, append-nil, Bool, true, none, ℕ, _/_, _%_, arith, eqb→eq}
-use Rattle.rules.specs.Bytes.{if_then_else_}
 use Rattle.rules.specs.Lines.{Mark, push, pop, open-anchor, close-anchor, LineOp, mark, Machine, has-text, Item, marked, making, release, spacing, item, step, run}
 use Rattle.rules.specs.Plain.{chars, fill}
 use Rattle.rules.specs.Html.{escape, mark-html, item-html, items-html}

@@ -2,6 +2,7 @@
 use Rattle.rules.proofs.Basics.{_≡_, sym, List, ℕ, _*_, _≤_, _<_, arith, mul-le-mul-right, ne-eqb}
 use mir.Syntax.{w64}
 use mir.Val.{Fits}
+use Rattle.rules.specs.Limits.{most-tenths}
 use Rattle.rules.specs.Bytes.{cap}
 use Rattle.shapes.proofs.Appending.{cap-over}
 use Rattle.rules.specs.Layout.{Shape, Inline}
@@ -15,12 +16,12 @@ no-width n w e =
     let z : n * w ≡ 0 = rw e (omega arith) in
     rw z
 
-pub many-bytes : (n w : ℕ) → (w ≡ 0 → ⊥) → 65_535 < n → 65_535 ≡ wide n w
+pub many-bytes : (n w : ℕ) → (w ≡ 0 → ⊥) → most-tenths < n → most-tenths ≡ wide n w
 unfolding wide
 many-bytes n w e h = sym (cap-over (n * w) (omega (arith, mul-le-mul-right {m = 65_536} {n = n} w h)))
 
-pub product-fits : (n w : ℕ) → n ≤ 65_535 → w < 65_536 → Fits w64 (n * w)
-product-fits n w h g = record { fits = omega (arith, mul-le-mul-right {m = n} {n = 65_535} w h) }
+pub product-fits : (n w : ℕ) → n ≤ most-tenths → w < 65_536 → Fits w64 (n * w)
+product-fits n w h g = record { fits = omega (arith, mul-le-mul-right {m = n} {n = most-tenths} w h) }
 
 -- ---- by the tag
 

@@ -4,6 +4,7 @@
 use Rattle.rules.proofs.Basics.{_≡_, refl, sym, _∙_, ap, ap₂, List, [], _∷_, map, Bool, true, false, inl, ⊎-elim, ℕ, suc, _≤_, _<_, zero-add, arith, leb, eqb, length, getD, leb-true, leb-false, le-leb}
 use mathlib.Core.Path.{fun-ext}
 use lib.ListN.{List·getD-eq-default}
+use Rattle.rules.specs.Limits.{most-bytes, most-columns}
 use Rattle.rules.specs.Bytes.{if_then_else_, has, newline}
 use Rattle.rules.specs.Result.{accepted, refused, _>>=_, _>>_, need}
 use Rattle.rules.specs.Walk.{check, content}
@@ -187,12 +188,12 @@ module _ (w : ℕ) (s : List ℕ) (t : Frag ℕ) (bs : Bytes s) (e : tree s ≡ 
   laid-passes = rw (layout-read newline w s t bs e)
 
   -- an accepted file is not too long, so that only the width can be refused
-  laid-by-width : layout-outcome w s ≡ left-laid s (need (leb w 6_553) 2 0 >> accepted (layout newline w t))
+  laid-by-width : layout-outcome w s ≡ left-laid s (need (leb w most-columns) 2 0 >> accepted (layout newline w t))
   unfolding layout-outcome laid-out need _>>_ _>>=_
   laid-by-width =
       let R = tree-read s t bs e in
-      let short : length s ≤ 60_000 = rw (R .encodes) at (R .good .short) in
-      rw (le-leb (length s) 60_000 short, e)
+      let short : length s ≤ most-bytes = rw (R .encodes) at (R .good .short) in
+      rw (le-leb (length s) most-bytes short, e)
 
 -- ---- and of two that are alike
 
@@ -264,4 +265,4 @@ module _ (kept : List ℕ) (S : Shows kept newline) (w : ℕ) (s s′ : List ℕ
 pub same-layout : (k : Page) (w : ℕ) (s s′ : List ℕ) → AlikeFiles (kept k) s s′ → SameLayout (kept k) s s′ (layout-outcome w s) (layout-outcome w s′)
 same-layout k w s s′ F =
     let T = one-tree F in
-    rw (laid-by-width w s _ (F .bytes) (T .filled), laid-by-width w s′ _ (F .bytes′) (T .filled′)) (laid-same (kept k) (newline-shown k) w s s′ F (leb w 6_553))
+    rw (laid-by-width w s _ (F .bytes) (T .filled), laid-by-width w s′ _ (F .bytes′) (T .filled′)) (laid-same (kept k) (newline-shown k) w s s′ F (leb w most-columns))

@@ -9,7 +9,7 @@ use Rattle.rules.specs.Walk.{right-size}
 use Rattle.rules.specs.Layout.{or-script, effective}
 use Rattle.styles.specs.declared.Styles.{Styles}
 use Rattle.styles.specs.Said.{flagged, said-styles, is-there}
-use Rattle.styles.proofs.StylesWritable.{size-test}
+use Rattle.rules.proofs.Words.{size-test}
 use Rattle.styles.proofs.EveryByte.{of-byte}
 
 -- ---- a byte as a signed one: below 128 itself, else 256 less

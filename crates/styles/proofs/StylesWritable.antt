@@ -1,8 +1,8 @@
 -- A style that was read has a text in HTML: its opacity and its size are allowed.
-use Rattle.rules.proofs.Basics.{_≡_, refl, sym, subst, _∙_, List, Option, none, some, Bool, true, false, _||_, and-eq-true-iff, or-false, ℕ, zero, suc, _-_, arith, T, leb, ltb, eqb, length, take, drop, ℤ, pos, negsuc, ltb-true, ltb-false, le-leb, lt-leb, eqb-true}
-use lib.Signed.{leZ, _≤ℤ_, leZ-yes}
+use Rattle.rules.proofs.Basics.{_≡_, refl, sym, List, Option, none, some, Bool, true, false, _||_, and-eq-true-iff, ℕ, zero, suc, _-_, eqb, length, take, drop, ℤ, eqb-true}
+use lib.Signed.{leZ-yes}
+use Rattle.rules.proofs.Words.{size-words}
 use Rattle.rules.specs.Bytes.{if_then_else_, number}
-use Rattle.rules.specs.Digits.{signed}
 use Rattle.rules.specs.Walk.{right-length, right-opacity, right-size}
 use Rattle.rules.specs.Tree as rules
 use Rattle.rules.specs.Tree.{signed-byte}
@@ -14,20 +14,6 @@ use Rattle.styles.specs.Said.{Allowed, AllowedSize, Writable}
 use Rattle.styles.specs.StylesIn.{no-styles, right-value, put-part, with-field, past-field, styles-from, styles-in}
 
 -- ---- sizes
-
--- the rules test a size by its byte, and that is whether the signed byte is at most 117
-pub size-test : (b : ℕ) → leZ (signed b) (pos 117) ≡ right-size b
-unfolding signed right-size
-size-test b = go (ltb b 128) refl
-  where
-    go : (low : Bool) → ltb b 128 ≡ low → leZ (if low then pos b else negsuc (255 - b)) (pos 117) ≡ (leb b 117 || leb 128 b)
-    go true e = rw (lt-leb 128 b (ltb-true b 128 e)) (sym (or-false (leb b 117)))
-    go false e =
-        let l = ltb-false b 128 e in
-        rw (lt-leb b 117 (omega (arith, l)), le-leb 128 b l)
-
-size-small : (b : ℕ) → right-size b ≡ true → signed b ≤ℤ pos 117
-size-small b e = leZ-yes (subst T (sym (size-test b ∙ e)) tt)
 
 -- a size that a script gives, -2, is allowed as well
 pub effective-allowed : (st : rules.Styles) → AllowedSize (st .size) → AllowedSize (effective st)
@@ -60,7 +46,7 @@ module _ (st : rules.Styles) (t : ℕ) (v : List ℕ) (h : Writable st) where
       its-opacity false e = h .opacity-allowed
 
       its-size : (b : Bool) → eqb 35 t ≡ b → AllowedSize (if b then some (signed-byte v) else st .size)
-      its-size true e = size-small (number v) (size-counts t v (sym (eqb-true 35 t e)) r)
+      its-size true e = size-words (number v) .0 (size-counts t v (sym (eqb-true 35 t e)) r)
       its-size false e = h .size-allowed
 
   field-writable : Writable (with-field st t v)
