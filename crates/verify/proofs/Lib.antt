@@ -1,5 +1,4 @@
 -- Laws that the proofs cite.
-pub mod Cycles
 pub mod TagLaws
 pub mod SaidLaws
 pub mod ContentLaws

@@ -78,7 +78,8 @@ pub fn put_spaces(page: &mut [u8], at: usize, n: usize) -> usize
     ensures { λ r. ⌜ Written (now (page .entry)) at (replicate n 32) (now (page .exit)) r ⌝ }
 {
     if at < page.len() {
-        if n <= page.len() - at {
+        let room = page.len() - at;
+        if n <= room {
             blank(&mut page[at..at + n]);
             return at + n;
         }

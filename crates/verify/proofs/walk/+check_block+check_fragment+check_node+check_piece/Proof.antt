@@ -3,7 +3,7 @@ use Rattle.rules.proofs.Basics.{ℕ, _+_, _*_, _-_, arith, length, needs}
 use denote.Ref.{now}
 use borrow.Fn.PlainCycle.{Measures}
 use Rattle.rules.specs.Walk.{in-fragment, in-block}
-use Rattle.verify.proofs.Cycles.{at, below}
+use Rattle.fields.proofs.Cycles.{at, below}
 use Rattle.verify.proofs.FrontLaws.{header-stops, sound-three, sound-end, sound-less, sound-room, sound-value}
 use Rattle.verify.proofs.LoopLaws.{Reached, reached-none, reached-stops, reached-three, reached-less, reached-on, reached-end, field-stands, free-nodes, free-pieces}
 use Rattle.verify.proofs.NodeLaws.{leaf-here, deep-node, block-node, piece-stops, whole-piece}
@@ -42,27 +42,27 @@ abbrev μ-piece : Measures 1 check-piece-kinds.ps ℕ
 pub +check-block+check-fragment+check-node+check-piece-spec : {M : Type 1} → statement M
 +check-block+check-fragment+check-node+check-piece-spec =
     close μ-block μ-fragment μ-node μ-piece
-    (λ t. check-block-lts.spec (below check-piece-kinds.ps μ-piece check-piece.Pre t, check-piece.Post, field-end.Asked, field-end.Learnt)
-    (at check-block-kinds.ps μ-block check-block.Pre t) check-block.Post
+    (λ t. check-block-lts.spec (below 1 check-piece-kinds.ps μ-piece check-piece.Pre t, check-piece.Post, field-end.Asked, field-end.Learnt)
+    (at 1 check-block-kinds.ps μ-block check-block.Pre t) check-block.Post
     (λ s depth base at₀ at. Reached s in-block depth base at) (λ s depth base at₀ at. length s - at)
     (λ c. reached-none) (λ c. search needs) (λ c κs. (omega arith, search field-stands))
     (λ c. search needs) (λ c. search needs) (λ c. search (reached-stops, free-pieces)) (λ c κs. search (reached-three, free-pieces))
     (λ c. search (reached-less, free-pieces)) (λ c. search (reached-on, free-pieces)) (λ c. search (reached-end, free-pieces)))
-    (λ t. check-fragment-lts.spec (below check-node-kinds.ps μ-node check-node.Pre t, check-node.Post, field-end.Asked, field-end.Learnt)
-    (at check-fragment-kinds.ps μ-fragment check-fragment.Pre t) check-fragment.Post
+    (λ t. check-fragment-lts.spec (below 1 check-node-kinds.ps μ-node check-node.Pre t, check-node.Post, field-end.Asked, field-end.Learnt)
+    (at 1 check-fragment-kinds.ps μ-fragment check-fragment.Pre t) check-fragment.Post
     (λ s depth base at₀ at. Reached s in-fragment depth base at) (λ s depth base at₀ at. length s - at)
     (λ c. reached-none) (λ c. search needs) (λ c κs. (omega arith, search field-stands))
     (λ c. search needs) (λ c. search needs) (λ c. search (reached-stops, free-nodes)) (λ c κs. search (reached-three, free-nodes))
     (λ c. search (reached-less, free-nodes)) (λ c. search (reached-on, free-nodes)) (λ c. search (reached-end, free-nodes)))
     (λ t. check-node-lts.spec
-    (in-fragment-reads.Asked, in-fragment-reads.Learnt, check-front.Asked, check-front.Learnt, field-end.Asked, field-end.Learnt, is-block.Asked, is-block.Learnt, check-leaf.Asked, check-leaf.Learnt, below check-block-kinds.ps μ-block check-block.Pre t, check-block.Post)
-    (at check-node-kinds.ps μ-node check-node.Pre t) check-node.Post
+    (in-fragment-reads.Asked, in-fragment-reads.Learnt, check-front.Asked, check-front.Learnt, field-end.Asked, field-end.Learnt, is-block.Asked, is-block.Learnt, check-leaf.Asked, check-leaf.Learnt, below 1 check-block-kinds.ps μ-block check-block.Pre t, check-block.Post)
+    (at 1 check-node-kinds.ps μ-node check-node.Pre t) check-node.Post
     (λ c. search needs) (λ c κs. search needs) (λ c κs. search needs) (λ c. search needs) (λ c. search needs) (λ c. search header-stops)
     (λ c. search needs) (λ c κs. search sound-three) (λ c. search needs) (λ c. search needs) (λ c. search sound-end) (λ c. search needs) (λ c κs. search needs)
     (λ c κs. search leaf-here) (λ c. search (sound-value, c .check-leaf .ensures)) (λ c. search deep-node) (λ c. search needs)
     (λ c κs. (search sound-less, search sound-room)) (λ c. search block-node))
-    λ t. check-piece-lts.spec (check-front.Asked, check-front.Learnt, field-end.Asked, field-end.Learnt, below check-fragment-kinds.ps μ-fragment check-fragment.Pre t, check-fragment.Post)
-    (at check-piece-kinds.ps μ-piece check-piece.Pre t) check-piece.Post
+    λ t. check-piece-lts.spec (check-front.Asked, check-front.Learnt, field-end.Asked, field-end.Learnt, below 1 check-fragment-kinds.ps μ-fragment check-fragment.Pre t, check-fragment.Post)
+    (at 1 check-piece-kinds.ps μ-piece check-piece.Pre t) check-piece.Post
     (λ c. search needs) (λ c κs. search needs) (λ c. search needs) (λ c. search needs) (λ c. search piece-stops)
     (λ c. search needs) (λ c κs. search sound-three) (λ c. search needs) (λ c. search needs) (λ c. search sound-end) (λ c. search needs)
     (λ c κs. (search sound-less, search sound-room)) (λ c. search whole-piece)
