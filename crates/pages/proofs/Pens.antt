@@ -1,4 +1,4 @@
--- What the pen writes: a waiting break, a line's spaces, an operation's own bytes, and all of one operation.
+-- What the pen writes: an operation's own bytes, all of one operation, and a mark of which nothing shows.
 use mathlib.Core.Path.{_≡_, refl, sym, ap, _∙_}
 use mathlib.Core.List.{List, [], _∷_, _++_, append-nil}
 use mathlib.Core.Bool.{Bool, true}
