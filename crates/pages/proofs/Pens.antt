@@ -1,4 +1,4 @@
--- What the pen writes: a waiting break, a line's spaces, an operation's own bytes, and all of one operation.
+-- What the pen writes: an operation's own bytes, all of one operation, and a mark of which nothing shows.
 use Rattle.rules.proofs.Basics.{_≡_, refl, sym, ap, _∙_, List, [], _∷_, _++_, append-nil, Bool, true, none, ℕ, _/_, _%_, arith, eqb→eq}
 use Rattle.rules.specs.Lines.{Mark, push, pop, open-anchor, close-anchor, LineOp, mark, Machine, has-text, Item, marked, making, release, spacing, item, step, run}
 use Rattle.rules.specs.Plain.{chars, fill}
