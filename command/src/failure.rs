@@ -52,7 +52,7 @@ impl Failure {
     }
 
     /// What the argument parser says.
-    pub fn of_arguments(said: String) -> Self {
+    pub fn of_arguments(said: &str) -> Self {
         Self::new(Status::Usage, &[said.trim_end().as_bytes()])
     }
 

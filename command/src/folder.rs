@@ -7,10 +7,11 @@ use crate::page::Kind;
 use crate::{output, print as printing};
 use indicatif::{ProgressBar, ProgressStyle};
 use std::ffi::OsStr;
+use std::io::{self, IsTerminal};
 use std::num::NonZeroUsize;
 use std::path::{Path, PathBuf};
 use std::sync::atomic::{AtomicUsize, Ordering};
-use std::{fs, io, thread};
+use std::{fs, thread};
 use walkdir::{DirEntry, WalkDir};
 
 struct Work<'a> {
@@ -131,8 +132,11 @@ fn together<T: Send>(worker: &(impl Fn() -> Vec<T> + Sync), count: usize) -> Vec
     })
 }
 
-/// It shows itself where standard error is a terminal.
+/// It is shown where standard error is a terminal.
 fn progress(files: usize) -> ProgressBar {
+    if !io::stderr().is_terminal() {
+        return ProgressBar::hidden();
+    }
     let looks = ProgressStyle::with_template("{bar:40} {pos} of {len} files, {eta} left");
     ProgressBar::new(files as u64).with_style(looks.expect("the template is sound"))
 }

@@ -8,7 +8,7 @@ use std::os::unix::ffi::OsStrExt;
 use std::path::{Path, PathBuf};
 
 /// A file of more than 60,000 bytes is refused whatever it holds, so that one byte more is enough of it.
-const ENOUGH: u64 = 60_001;
+const ENOUGH: usize = 60_001;
 
 pub enum Source {
     Standard,
@@ -47,8 +47,8 @@ fn standard() -> io::Result<File> {
 }
 
 fn enough(from: File) -> io::Result<Vec<u8>> {
-    let mut file = Vec::new();
-    from.take(ENOUGH).read_to_end(&mut file)?;
+    let mut file = Vec::with_capacity(ENOUGH);
+    from.take(ENOUGH as u64).read_to_end(&mut file)?;
     Ok(file)
 }
 

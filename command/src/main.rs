@@ -44,7 +44,7 @@ fn run(task: Task) -> Result<Status, Failure> {
 /// Help and version go to standard output, and what is wrong with the arguments to standard error.
 fn explain(said: &clap::Error) -> Result<Status, Failure> {
     match said.use_stderr() {
-        true => Err(Failure::of_arguments(said.to_string())),
+        true => Err(Failure::of_arguments(&said.to_string())),
         false => output::standard(said.to_string().as_bytes()),
     }
 }

@@ -21,7 +21,8 @@ impl Kind {
     /// Lays the file out and has its page made. A refusal leaves the file as it was.
     pub fn of(self, file: &mut [u8], width: usize) -> Result<Vec<u8>, Refusal> {
         layout_file(file, width)?;
-        let mut page = Vec::new();
+        // room for nearly every page, so that it need not be measured first
+        let mut page = Vec::with_capacity(8 * file.len() + 2_048);
         match self {
             Self::Plain => append_plain_page(file, &mut page)?,
             Self::Body => append_html_body(file, &mut page)?,

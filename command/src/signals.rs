@@ -36,7 +36,7 @@ fn is_ignored(signal: i32) -> bool {
     // SAFETY: a structure of numbers, for which zeros are right.
     let mut now: libc::sigaction = unsafe { std::mem::zeroed() };
     // SAFETY: nothing is set, and what is said goes to a structure that is there.
-    let said = unsafe { libc::sigaction(signal, ptr::null(), &mut now) };
+    let said = unsafe { libc::sigaction(signal, ptr::null(), &raw mut now) };
     said == 0 && now.sa_sigaction == libc::SIG_IGN
 }
 

@@ -47,14 +47,15 @@ fn permit(new: &File, old: Option<&Metadata>) -> io::Result<()> {
     }
 }
 
-/// The permissions that whoever runs this takes from every new file. The system tells them only by changing them, so this is asked once.
+/// The permissions that whoever runs this takes from every new file. The call that tells them changes them, for other threads too, so they are
+/// read; where that cannot be, a new file is its owner's alone.
 fn mask() -> u32 {
     static MASK: OnceLock<u32> = OnceLock::new();
     *MASK.get_or_init(|| {
-        // SAFETY: the call takes a number, and cannot fail.
-        let mask = unsafe { libc::umask(0o077) };
-        // SAFETY: as above.
-        unsafe { libc::umask(mask) };
-        mask
+        let status = fs::read_to_string("/proc/self/status").unwrap_or_default();
+        let mut lines = status.lines();
+        let mask = lines.find_map(|line| line.strip_prefix("Umask:"));
+        let octal = |mask: &str| u32::from_str_radix(mask.trim(), 8).ok();
+        mask.and_then(octal).unwrap_or(0o077)
     })
 }
