@@ -1,4 +1,6 @@
 //! `hazomeny`: checks, lays out and prints fragment files by the proved library.
+//!
+//! A new subcommand is a case of [`Task`], which help, completion and manual follow, and a line in [`run`].
 
 mod arguments;
 mod check;
