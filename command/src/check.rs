@@ -6,20 +6,20 @@ use crate::output;
 use std::path::PathBuf;
 
 pub fn check(files: Vec<PathBuf>) -> Result<Status, Failure> {
-    let named = files.into_iter().map(|path| Source::of(Some(path)));
-    let mut sources: Vec<_> = named.collect();
+    let mut sources: Vec<_> = files
+        .into_iter()
+        .map(|path| Source::of(Some(path)))
+        .collect();
     if sources.is_empty() {
         sources.push(Source::Standard);
     }
     let mut worst = Status::Done;
     for source in sources {
-        match one(&source) {
-            Ok(()) => output::standard(&[&source.name()[..], b": accepted\n"].concat())?,
-            Err(failure) => {
-                worst = worst.max(failure.tell());
-                worst
-            }
-        };
+        if let Err(failure) = one(&source) {
+            worst = worst.max(failure.tell());
+        } else {
+            output::standard(&[&source.name()[..], b": accepted\n"].concat())?;
+        }
     }
     Ok(worst)
 }

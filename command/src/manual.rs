@@ -1,95 +1,85 @@
 //! The manual page, made from the same definitions as the help (Debian has no crate for it).
 
+use clap::builder::StyledStr;
 use clap::{Arg, Command};
-use std::fmt::Write;
 
 pub fn written(mut command: Command) -> String {
     command.build();
-    let mut page = String::new();
-    let (name, about) = (command.get_name().to_string(), about(&command));
+    let notes = text(command.get_after_help());
+    let tasks = command.get_subcommands_mut();
+    let sections: String = tasks
+        .filter(|task| task.get_name() != "help")
+        .map(section)
+        .collect();
+    format!(
+        "{}.SH COMMANDS\n{sections}.SH NOTES\n.nf\n{notes}\n.fi\n",
+        heading(&command)
+    )
+}
+
+fn heading(command: &Command) -> String {
+    let (name, about) = (command.get_name(), text(command.get_about()));
+    let title = name.to_uppercase();
     let version = command.get_version().unwrap_or_default();
-    let _ = write!(
-        page,
-        ".TH {} 1 \"\" \"{name} {version}\" \"User Commands\"\n.SH NAME\n{name} \\- {}\n.SH SYNOPSIS\n\\fB{name}\\fR \\fICOMMAND\\fR ...\n.SH COMMANDS\n",
-        name.to_uppercase(),
-        escaped(&about)
-    );
-    for each in command.get_subcommands_mut() {
-        if each.get_name() != "help" {
-            page.push_str(&section(each));
-        }
-    }
-    if let Some(rest) = command.get_after_help() {
-        let _ = write!(
-            page,
-            ".SH NOTES\n.nf\n{}\n.fi\n",
-            escaped(&rest.to_string())
-        );
-    }
-    page
+    [
+        format!(".TH {title} 1 \"\" \"{name} {version}\" \"User Commands\"\n"),
+        format!(".SH NAME\n{name} \\- {about}\n"),
+        format!(".SH SYNOPSIS\n{} {} ...\n", bold(name), italic("COMMAND")),
+    ]
+    .concat()
 }
 
 /// A subcommand: how it is called, what it does, what it takes.
 fn section(command: &mut Command) -> String {
     let usage = command.render_usage().to_string();
-    let usage = usage.trim_start_matches("Usage: ").trim_end();
-    let mut section = format!(".SS {}\n{}\n", escaped(usage), escaped(&about(command)));
-    for argument in command.get_arguments() {
-        section.push_str(&entry(argument));
-    }
-    section
-}
-
-fn about(command: &Command) -> String {
-    command
-        .get_about()
-        .map(ToString::to_string)
-        .unwrap_or_default()
+    let usage = escaped(usage.trim_start_matches("Usage: ").trim_end());
+    let about = text(command.get_about());
+    let entries: String = command.get_arguments().map(entry).collect();
+    format!(".SS {usage}\n{about}\n{entries}")
 }
 
 fn entry(argument: &Arg) -> String {
-    let help = argument
-        .get_help()
-        .map(ToString::to_string)
-        .unwrap_or_default();
-    let defaults: Vec<_> = argument
-        .get_default_values()
-        .iter()
-        .map(|value| value.to_string_lossy())
-        .collect();
-    let default = match &defaults[..] {
-        [value] if argument.get_action().takes_values() => format!(" [default: {value}]"),
+    let (called, help) = (called(argument), text(argument.get_help()));
+    let default = match argument.get_default_values() {
+        [value] if takes_values(argument) => format!(" [default: {}]", value.to_string_lossy()),
         _ => String::new(),
     };
-    format!(
-        ".TP\n{}\n{}\n",
-        called(argument),
-        escaped(&(help + &default))
-    )
+    format!(".TP\n{called}\n{help}{default}\n")
 }
 
-/// The argument's names in bold, and what stands behind them in italics.
+/// The argument's names, and what stands behind them.
 fn called(argument: &Arg) -> String {
     let short = argument
         .get_short()
-        .map(|letter| format!("\\fB\\-{letter}\\fR"));
-    let long = argument
-        .get_long()
-        .map(|word| format!("\\fB{}\\fR", escaped(&format!("--{word}"))));
+        .map(|letter| bold(&format!("-{letter}")));
+    let long = argument.get_long().map(|word| bold(&format!("--{word}")));
     let names: Vec<String> = short.into_iter().chain(long).collect();
-    let values = match argument.get_action().takes_values() {
-        true => argument.get_value_names().unwrap_or_default(),
-        false => &[],
-    };
-    let values = values
-        .iter()
-        .map(|value| format!("\\fI{}\\fR", escaped(value)));
-    let names = Some(names.join(", ")).filter(|names| !names.is_empty());
+    let values = argument
+        .get_value_names()
+        .filter(|_| takes_values(argument));
+    let values = values.unwrap_or_default().iter().map(|value| italic(value));
+    let names = (!names.is_empty()).then(|| names.join(", "));
     names
         .into_iter()
         .chain(values)
         .collect::<Vec<_>>()
         .join(" ")
+}
+
+fn takes_values(argument: &Arg) -> bool {
+    argument.get_action().takes_values()
+}
+
+fn bold(text: &str) -> String {
+    format!("\\fB{}\\fR", escaped(text))
+}
+
+fn italic(text: &str) -> String {
+    format!("\\fI{}\\fR", escaped(text))
+}
+
+fn text(said: Option<&StyledStr>) -> String {
+    escaped(&said.map(ToString::to_string).unwrap_or_default())
 }
 
 /// The text as roff has to have it: a line that begins with a dot or a quote would be a request.
