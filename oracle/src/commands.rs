@@ -6,6 +6,7 @@ use crate::compare::{self, Disagreement, Stop, Tally};
 use crate::damage::noise;
 use crate::examples;
 use crate::extent::Extent;
+use crate::folder;
 use crate::hex::hex;
 use crate::masks::{self, Unlike};
 use crate::numbers::{self, Misprint};
@@ -31,6 +32,8 @@ oracle COMMAND: the Rust original's answers for fragment files
                                OP is check, layout, plain, body or document;
                                prints `accepted`, the raw file or the raw page,
                                or `refused N at P`
+  print [--width W] DIR OUT    prints every *.fragment file below DIR to OUT, as
+                               `hazomeny print DIR -o OUT` does
   answers < REQUESTS > ANSWERS answers a request batch, a line for each
   respond < REQUESTS > RESPONSES
                                the same as a response batch: the judge as a
@@ -64,6 +67,7 @@ pub fn run(words: &[String]) -> Result<ExitCode, Mistake> {
     match command.as_str() {
         "examples" => run_examples(&Options::new(rest, &[])?),
         "ask" => run_ask(&Options::new(rest, &["width", "room"])?),
+        "print" => run_print(&Options::new(rest, &["width"])?),
         "answers" => run_answers(&Options::new(rest, &[])?),
         "respond" => run_respond(&Options::new(rest, &[])?),
         "record" => run_record(&Options::new(rest, &[])?),
@@ -128,6 +132,14 @@ fn run_ask(options: &Options) -> Result<ExitCode, Mistake> {
             Ok(ExitCode::FAILURE)
         }
     }
+}
+
+fn run_print(options: &Options) -> Result<ExitCode, Mistake> {
+    let [folder, out] = options.words()?;
+    let width = options.number("width")?.unwrap_or(80);
+    let printed = folder::print(Path::new(folder), Path::new(out), width)?;
+    println!("{printed} files printed");
+    Ok(ExitCode::SUCCESS)
 }
 
 fn named(name: &str) -> Result<Operation, Mistake> {

@@ -8,6 +8,7 @@ pub mod damage;
 pub mod examples;
 pub mod extent;
 pub mod field;
+pub mod folder;
 pub mod generate;
 pub mod hex;
 pub mod known;

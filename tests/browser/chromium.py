@@ -64,17 +64,6 @@ def opened(browser, paths):
     return json.loads(urllib.parse.unquote(report))
 
 
-def pictured(browser, document, path):
-    """Puts a picture of the document there."""
-    path.unlink(missing_ok=True)
-    # Text smoothed by colours would show colours that no style asked for.
-    looks = ["--disable-lcd-text", "--hide-scrollbars", "--window-size=700,1060"]
-    ended = call(browser, [*looks, f"--screenshot={path}", document.as_uri()])
-    if ended.status != 0 or not path.exists():
-        raise Failed(f"no picture: {how(ended)}")
-    return path
-
-
 def call(browser, arguments):
     with private_directory() as home:
         # Besides its profile the browser writes to the home directory.

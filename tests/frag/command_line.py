@@ -4,7 +4,7 @@ import os
 import pathlib
 import tempfile
 
-from harness import SAMPLES, command, frag, unspaced
+from harness import SAMPLES, Case, command, frag, unspaced
 
 CALL_TREE = """\
 place  tag  length  field
@@ -117,126 +117,119 @@ REFUSED = [
 COMMANDS = ["build", "dump", "check", "hex", "unhex", "help"]
 
 
-def run(checks):
-    trees(checks)
-    hexes(checks)
-    helps(checks)
-    with tempfile.TemporaryDirectory() as folder:
-        files(checks, pathlib.Path(folder))
-    pipes(checks)
+class CommandLine(Case):
+    def test_trees(self):
+        self.same("dump call", frag("dump", SAMPLES / "call.fragment"), (0, CALL_TREE.encode(), ""))
+        self.same("dump styled", frag("dump", "-", given=unspaced(STYLED)),
+                  (0, STYLED_TREE.encode("utf-8"), ""))
+        self.same("dump of nothing", frag("dump", "-"), (0, b"place  tag  length  field\n", ""))
+        heading = CALL_TREE.splitlines(True)[0]
+        for hex_bytes, tree, refusal in REFUSED:
+            status, out, error = frag("dump", "-", given=unspaced(hex_bytes))
+            self.same("dump %.60s" % hex_bytes, (status, out.decode("utf-8"), error),
+                      (1, heading + tree, refusal + "\n"))
+        built = frag("build", "-", given=TIDY.encode())[1]
+        self.same("dump --notation", frag("dump", "--notation", "-", given=built)[1].decode(), TIDY)
+        status, out, error = frag("dump", "--notation", "-", given=unspaced("050000 630000"))
+        refusal = "refused 4 at 3: tag 99 may not stand here in the file, expected 1 to 7\n"
+        self.same("dump --notation of a refused file", (status, out.decode(), error),
+                  (1, "space\n# %sraw 630000\n" % refusal, refusal))
 
+    def test_hexes(self):
+        self.same("hex call", frag("hex", SAMPLES / "call.fragment"), (0, CALL_HEX.encode(), ""))
+        self.same("hex of a cut file", frag("hex", "-", given=unspaced("050000 0500")),
+                  (0, b"050000\n0500\n", ""))
+        self.same("hex of a long value", frag("hex", "-", given=unspaced("070028" + "61" * 40)),
+                  (0, b"070028 " + b"61" * 32 + b"\n  " + b"61" * 8 + b"\n", ""))
+        self.same("hex of nothing", frag("hex", "-"), (0, b"", ""))
+        self.same("unhex", frag("unhex", given=b"# a text\n01 0004\t1100 01 6\n 1#end"),
+                  (0, unspaced("010004 11000161"), ""))
+        self.same("unhex of capitals", frag("unhex", "-", given=b"fFAb"), (0, b"\xff\xab", ""))
+        self.same("unhex of nothing", frag("unhex", given=b" # nothing\n"), (0, b"", ""))
 
-def trees(checks):
-    checks.same("dump call", frag("dump", SAMPLES / "call.fragment"), (0, CALL_TREE.encode(), ""))
-    checks.same("dump styled", frag("dump", "-", given=unspaced(STYLED)),
-                (0, STYLED_TREE.encode("utf-8"), ""))
-    checks.same("dump of nothing", frag("dump", "-"), (0, b"place  tag  length  field\n", ""))
-    heading = CALL_TREE.splitlines(True)[0]
-    for hex_bytes, tree, refusal in REFUSED:
-        status, out, error = frag("dump", "-", given=unspaced(hex_bytes))
-        checks.same("dump %.60s" % hex_bytes, (status, out.decode("utf-8"), error),
-                    (1, heading + tree, refusal + "\n"))
-    built = frag("build", "-", given=TIDY.encode())[1]
-    checks.same("dump --notation", frag("dump", "--notation", "-", given=built)[1].decode(), TIDY)
-    status, out, error = frag("dump", "--notation", "-", given=unspaced("050000 630000"))
-    refusal = "refused 4 at 3: tag 99 may not stand here in the file, expected 1 to 7\n"
-    checks.same("dump --notation of a refused file", (status, out.decode(), error),
-                (1, "space\n# %sraw 630000\n" % refusal, refusal))
+    def test_helps(self):
+        status, whole, error = frag("help")
+        self.same("help", (status, error), (0, ""))
+        for each in COMMANDS:
+            self.same("help tells of " + each, ("\n    %s " % each) in whole.decode(), True)
+            shown = frag(each, "--help")
+            usage = b"usage: frag %s " % each.encode()
+            self.same("%s --help" % each, (shown[0], shown[1].startswith(usage)), (0, True))
+            self.same("help %s says the same" % each, frag("help", each), shown)
+        self.same("no command is help", frag()[:2], (0, whole))
+        for wrong in [("nonsense",), ("build",), ("dump", "--what", "x"), ("help", "nonsense")]:
+            status, out, error = frag(*wrong)
+            self.same("frag %s" % " ".join(wrong), (status, out, error.startswith("usage: frag")),
+                      (2, b"", True))
 
+    def setUp(self):
+        folder = tempfile.TemporaryDirectory()
+        self.addCleanup(folder.cleanup)
+        self.folder = pathlib.Path(folder.name)
 
-def hexes(checks):
-    checks.same("hex call", frag("hex", SAMPLES / "call.fragment"), (0, CALL_HEX.encode(), ""))
-    checks.same("hex of a cut file", frag("hex", "-", given=unspaced("050000 0500")),
-                (0, b"050000\n0500\n", ""))
-    checks.same("hex of a long value", frag("hex", "-", given=unspaced("070028" + "61" * 40)),
-                (0, b"070028 " + b"61" * 32 + b"\n  " + b"61" * 8 + b"\n", ""))
-    checks.same("hex of nothing", frag("hex", "-"), (0, b"", ""))
-    checks.same("unhex", frag("unhex", given=b"# a text\n01 0004\t1100 01 6\n 1#end"),
-                (0, unspaced("010004 11000161"), ""))
-    checks.same("unhex of capitals", frag("unhex", "-", given=b"fFAb"), (0, b"\xff\xab", ""))
-    checks.same("unhex of nothing", frag("unhex", given=b" # nothing\n"), (0, b"", ""))
+    def test_files(self):
+        call = (SAMPLES / "call.fragment").read_bytes()
+        target = self.folder / "made"
+        self.same("build -o", frag("build", SAMPLES / "call.frag", "-o", target), (0, b"", ""))
+        self.same("build -o wrote", target.read_bytes(), call)
+        self.same("unhex -o", frag("unhex", "-o", target, given=b"0500 00"), (0, b"", ""))
+        self.same("unhex -o wrote", target.read_bytes(), unspaced("050000"))
+        faulty = self.folder / "faulty.frag"
+        faulty.write_text("space\n  text\n", encoding="utf-8")
+        self.same("a file is called by its name", frag("build", faulty, "-o", target),
+                  (2, b"", "frag: %s:3:1: found the end of the input, expected the text in double "
+                   "quotes, or its styles in '{ }'\n" % faulty))
+        self.same("a faulty notation changes no file", target.read_bytes(), unspaced("050000"))
+        faulty.write_text('space\nindented {\n  [ anchor use "\\"" () ] }\n', encoding="utf-8")
+        self.same("a warning's line", frag("build", faulty),
+                  (0, unspaced("050000 03000a 080007 020004 130001 22"),
+                   "frag: %s:3:16: warning: the built file is refused 9 at 12: a '\"' at byte 15, "
+                   "in these anchor bytes (use)\n" % faulty))
+        self.same("build -o -", frag("build", SAMPLES / "call.frag", "-o", "-"), (0, call, ""))
 
+    def test_unusable(self):
+        missing = self.folder / "missing"
+        for each in [("build",), ("dump",), ("dump", "--notation"), ("check",), ("hex",),
+                     ("unhex",)]:
+            self.same("%s of a missing file" % " ".join(each), frag(*each, missing),
+                      (2, b"", "frag: %s: No such file or directory\n" % missing))
+            self.same("%s of a folder" % " ".join(each), frag(*each, self.folder),
+                      (2, b"", "frag: %s: Is a directory\n" % self.folder))
+        nowhere = missing / "file"
+        self.same("build -o into a missing folder",
+                  frag("build", SAMPLES / "call.frag", "-o", nowhere),
+                  (2, b"", "frag: %s: No such file or directory\n" % nowhere))
+        self.same("check of nothing named", frag("check"),
+                  (2, b"", "frag: check: found neither a FILE nor --lines, expected one of them\n"))
+        self.same("check --lines without a line", frag("check", "--lines"),
+                  (2, b"", "frag: standard input: found no line, expected lines of hex and "
+                   "answer\n"))
+        for line in ["accepted", "0x05 accepted", "05", "05 maybe", "050 accepted"]:
+            self.same("check --lines of '%s'" % line, frag("check", "--lines", given=line.encode()),
+                      (2, b"", "frag: standard input:1:1: found '%s', expected hex digits, a "
+                       "space, and 'accepted' or 'refused N at P'\n" % line))
 
-def helps(checks):
-    status, whole, error = frag("help")
-    checks.same("help", (status, error), (0, ""))
-    for each in COMMANDS:
-        checks.same("help tells of " + each, ("\n    %s " % each) in whole.decode(), True)
-        shown = frag(each, "--help")
-        usage = b"usage: frag %s " % each.encode()
-        checks.same("%s --help" % each, (shown[0], shown[1].startswith(usage)), (0, True))
-        checks.same("help %s says the same" % each, frag("help", each), shown)
-    checks.same("no command is help", frag()[:2], (0, whole))
-    for wrong in [("nonsense",), ("build",), ("dump", "--what", "x"), ("help", "nonsense")]:
-        status, out, error = frag(*wrong)
-        checks.same("frag %s" % " ".join(wrong), (status, out, error.startswith("usage: frag")),
-                    (2, b"", True))
-
-
-def files(checks, folder):
-    call = (SAMPLES / "call.fragment").read_bytes()
-    target = folder / "made"
-    checks.same("build -o", frag("build", SAMPLES / "call.frag", "-o", target), (0, b"", ""))
-    checks.same("build -o wrote", target.read_bytes(), call)
-    checks.same("unhex -o", frag("unhex", "-o", target, given=b"0500 00"), (0, b"", ""))
-    checks.same("unhex -o wrote", target.read_bytes(), unspaced("050000"))
-    faulty = folder / "faulty.frag"
-    faulty.write_text("space\n  text\n", encoding="utf-8")
-    checks.same("a file is called by its name", frag("build", faulty, "-o", target),
-                (2, b"", "frag: %s:3:1: found the end of the input, expected the text in double "
-                 "quotes, or its styles in '{ }'\n" % faulty))
-    checks.same("a faulty notation changes no file", target.read_bytes(), unspaced("050000"))
-    faulty.write_text('space\nindented {\n  [ anchor use "\\"" () ] }\n', encoding="utf-8")
-    checks.same("a warning's line", frag("build", faulty),
-                (0, unspaced("050000 03000a 080007 020004 130001 22"),
-                 "frag: %s:3:16: warning: the built file is refused 9 at 12: a '\"' at byte 15, in "
-                 "these anchor bytes (use)\n" % faulty))
-    checks.same("build -o -", frag("build", SAMPLES / "call.frag", "-o", "-"), (0, call, ""))
-    unusable(checks, folder)
-
-
-def unusable(checks, folder):
-    missing = folder / "missing"
-    for each in [("build",), ("dump",), ("dump", "--notation"), ("check",), ("hex",), ("unhex",)]:
-        checks.same("%s of a missing file" % " ".join(each), frag(*each, missing),
-                    (2, b"", "frag: %s: No such file or directory\n" % missing))
-        checks.same("%s of a folder" % " ".join(each), frag(*each, folder),
-                    (2, b"", "frag: %s: Is a directory\n" % folder))
-    nowhere = missing / "file"
-    checks.same("build -o into a missing folder",
-                frag("build", SAMPLES / "call.frag", "-o", nowhere),
-                (2, b"", "frag: %s: No such file or directory\n" % nowhere))
-    checks.same("check of nothing named", frag("check"),
-                (2, b"", "frag: check: found neither a FILE nor --lines, expected one of them\n"))
-    checks.same("check --lines without a line", frag("check", "--lines"),
-                (2, b"", "frag: standard input: found no line, expected lines of hex and answer\n"))
-    for line in ["accepted", "0x05 accepted", "05", "05 maybe", "050 accepted"]:
-        checks.same("check --lines of '%s'" % line, frag("check", "--lines", given=line.encode()),
-                    (2, b"", "frag: standard input:1:1: found '%s', expected hex digits, a space, "
-                     "and 'accepted' or 'refused N at P'\n" % line))
-
-
-def pipes(checks):
-    """A reader that goes away, a closed or full output, another encoding: never a traceback."""
-    shader = SAMPLES / "shader.fragment"
-    reader, writer = os.pipe()
-    os.close(reader)
-    checks.same("a reader that goes away", command("dump", shader, stdout=writer)[1:], (None, ""))
-    os.close(writer)
-    checks.same("a closed output", command("dump", shader, preexec_fn=lambda: os.close(1))[::2],
-                (2, "frag: standard output: closed\n"))
-    for arguments in [("dump", "-"), ("check", "--lines")]:
-        checks.same("a closed input", command(*arguments, preexec_fn=lambda: os.close(0)),
-                    (2, b"", "frag: standard input: closed\n"))
-    if os.path.exists("/dev/full"):
-        for size in ("call", "shader"):  # what fits Python's own buffer, and what does not
-            with open("/dev/full", "wb") as full:
-                told = command("dump", SAMPLES / (size + ".fragment"), stdout=full)
-            checks.same("a full output, " + size, told,
-                        (2, None, "frag: standard output: No space left on device\n"))
-    ascii_only = {"PYTHONIOENCODING": "ascii", "PYTHONUTF8": "0"}
-    checks.same("an output that is said to be ASCII",
-                command("dump", "-", given=unspaced(STYLED), more_env=ascii_only),
-                (0, STYLED_TREE.encode("utf-8"), ""))
-    checks.same("a refused file by a process", command("check", "-", given=b"\x63")[:2],
-                (1, b"refused 3 at 0\n"))
+    def test_pipes(self):
+        """A reader that goes away, a closed or full output, another encoding: never a traceback."""
+        shader = SAMPLES / "shader.fragment"
+        reader, writer = os.pipe()
+        os.close(reader)
+        self.same("a reader that goes away", command("dump", shader, stdout=writer)[1:], (None, ""))
+        os.close(writer)
+        self.same("a closed output", command("dump", shader, preexec_fn=lambda: os.close(1))[::2],
+                  (2, "frag: standard output: closed\n"))
+        for arguments in [("dump", "-"), ("check", "--lines")]:
+            self.same("a closed input", command(*arguments, preexec_fn=lambda: os.close(0)),
+                      (2, b"", "frag: standard input: closed\n"))
+        if os.path.exists("/dev/full"):
+            for size in ("call", "shader"):  # what fits Python's own buffer, and what does not
+                with open("/dev/full", "wb") as full:
+                    told = command("dump", SAMPLES / (size + ".fragment"), stdout=full)
+                self.same("a full output, " + size, told,
+                          (2, None, "frag: standard output: No space left on device\n"))
+        ascii_only = {"PYTHONIOENCODING": "ascii", "PYTHONUTF8": "0"}
+        self.same("an output that is said to be ASCII",
+                  command("dump", "-", given=unspaced(STYLED), more_env=ascii_only),
+                  (0, STYLED_TREE.encode("utf-8"), ""))
+        self.same("a refused file by a process", command("check", "-", given=b"\x63")[:2],
+                  (1, b"refused 3 at 0\n"))

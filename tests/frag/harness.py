@@ -1,10 +1,11 @@
-"""What the tests share: counting checks, running the command, and its library for many files."""
+"""What the tests share: a check, running the command, and its library for many files."""
 
 import io
 import os
 import pathlib
 import subprocess
 import sys
+import unittest
 
 HERE = pathlib.Path(__file__).resolve().parent
 ROOT = HERE.parent.parent
@@ -16,26 +17,11 @@ sys.path.insert(0, str(ROOT / "tools"))
 from fraglib import cli
 
 
-class Checks:
-    """Counts what holds; tells what does not, and goes on to find more."""
-
-    def __init__(self):
-        self.held = 0
-        self.failed = 0
-
+class Case(unittest.TestCase):
     def same(self, what, got, expected):
-        if got == expected:
-            self.held += 1
-            return
-        self.failed += 1
-        print("FAILED: %s\n  got:      %r\n  expected: %r" % (what, got, expected))
-
-    def verdict(self):
-        if self.failed:
-            print("frag: %d of %d checks FAILED" % (self.failed, self.failed + self.held))
-            return 1
-        print("frag: %d checks hold" % self.held)
-        return 0
+        """A check that stops no other where it fails."""
+        with self.subTest(what):
+            self.assertEqual(got, expected)
 
 
 def frag(*arguments, given=b""):

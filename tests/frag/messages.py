@@ -1,6 +1,6 @@
 """What `frag` says of input that it cannot use: each kind of message, with its line and column."""
 
-from harness import frag
+from harness import Case, frag
 
 NODE_WORDS = "text, anchor, indented, inline-or-indented, space, force-line, if-block, raw, field"
 STYLE_WORDS = "colour=, opacity=, thickness=, size=, sub, sup, dim, raw, field"
@@ -103,20 +103,20 @@ UNHEX = [
 ]
 
 
-def run(checks):
-    commands = [(("build", "-"), BUILD), (("unhex",), UNHEX), (("unhex", "-"), UNHEX[:1])]
-    for command, table in commands:
-        for source, at, found, expected in table:
-            told(checks, command, source, at, found, expected)
+class Messages(Case):
+    def test_messages(self):
+        commands = [(("build", "-"), BUILD), (("unhex",), UNHEX), (("unhex", "-"), UNHEX[:1])]
+        for command, table in commands:
+            for source, at, found, expected in table:
+                self.told(command, source, at, found, expected)
 
-
-def told(checks, command, source, at, found, expected):
-    """One line and nothing written; or, where no place is given, no such line."""
-    given = source if isinstance(source, bytes) else source.encode("utf-8")
-    status, out, error = frag(*command, given=given)
-    name = "%s %.60r" % (command[0], source)
-    if at is None:
-        checks.same(name + " is let through", (status, len(out) > 0), (0, True))
-        return
-    line = "frag: standard input:%s: found %s, expected %s\n" % (at, found, expected)
-    checks.same(name, (status, out, error), (2, b"", line))
+    def told(self, command, source, at, found, expected):
+        """One line and nothing written; or, where no place is given, no such line."""
+        given = source if isinstance(source, bytes) else source.encode("utf-8")
+        status, out, error = frag(*command, given=given)
+        name = "%s %.60r" % (command[0], source)
+        if at is None:
+            self.same(name + " is let through", (status, len(out) > 0), (0, True))
+            return
+        line = "frag: standard input:%s: found %s, expected %s\n" % (at, found, expected)
+        self.same(name, (status, out, error), (2, b"", line))

@@ -4,7 +4,7 @@ Where document 01 prints an example's bytes these are they; the others are worke
 its table of tags. Each is also checked, dumped as notation and built again.
 """
 
-from harness import frag, nested_blocks, unspaced
+from harness import Case, frag, nested_blocks, unspaced
 
 A = "010004 11000161 "
 B = "010004 11000162 "
@@ -101,19 +101,19 @@ NOTATION = [
 ]
 
 
-def run(checks):
-    for name, notation, hex_bytes, answer in EXAMPLES + NOTATION:
-        builds_to(checks, name, notation, unspaced(hex_bytes), answer)
+class NotationExamples(Case):
+    def test_examples(self):
+        for name, notation, hex_bytes, answer in EXAMPLES + NOTATION:
+            self.builds_to(name, notation, unspaced(hex_bytes), answer)
 
-
-def builds_to(checks, name, notation, data, answer):
-    status, built, warning = frag("build", "-", given=notation.encode("utf-8"))
-    checks.same(name + ": built", (status, built.hex()), (0, data.hex()))
-    warned = warning.partition("warning: the built file is ")[2].partition(":")[0]
-    checks.same(name + ": warned of", warned, "" if answer == "accepted" else answer)
-    status, checked, _ = frag("check", "-", given=data)
-    checks.same(name + ": checked", (status, checked.decode()),
-                (0 if answer == "accepted" else 1, answer + "\n"))
-    status, again, _ = frag("dump", "--notation", "-", given=data)
-    checks.same(name + ": back in notation, and built again",
-                frag("build", "-", given=again)[1].hex(), data.hex())
+    def builds_to(self, name, notation, data, answer):
+        status, built, warning = frag("build", "-", given=notation.encode("utf-8"))
+        self.same(name + ": built", (status, built.hex()), (0, data.hex()))
+        warned = warning.partition("warning: the built file is ")[2].partition(":")[0]
+        self.same(name + ": warned of", warned, "" if answer == "accepted" else answer)
+        status, checked, _ = frag("check", "-", given=data)
+        self.same(name + ": checked", (status, checked.decode()),
+                  (0 if answer == "accepted" else 1, answer + "\n"))
+        status, again, _ = frag("dump", "--notation", "-", given=data)
+        self.same(name + ": back in notation, and built again",
+                  frag("build", "-", given=again)[1].hex(), data.hex())

@@ -3,7 +3,7 @@
 import random
 import struct
 
-from harness import command
+from harness import Case, command
 
 from fraglib import floats, hexes, items, notation, unparse
 from fraglib.reading import check, read
@@ -105,40 +105,40 @@ def built(source):
     return items.encode(notation.parse(source))
 
 
-def run(checks):
-    rng = random.Random(SEED)
-    files = [accepted_file(rng) for _ in range(FILES)]
-    refused = 0
-    for number, data in enumerate(files):
-        name = "random file %d of seed %d" % (number, SEED)
-        refusal = check(data)
-        checks.same(name + " is accepted", refusal and refusal.answer(), None)
-        bad = spoiled(rng, data)
-        refused += check(bad) is not None
-        for kind, each in [("", data), (", spoiled", bad)]:
-            checks.same(name + kind + ": notation", built(notation_of(each)).hex(), each.hex())
-            checks.same(name + kind + ": hex", hexes.unhex(hex_of(each)).hex(), each.hex())
-        checks.same(name + ": no raw is needed", "raw" in notation_of(data).split(), False)
-    checks.same("most spoiled files are refused", refused > FILES / 2, True)
-    large = b"".join(files[:100])  # a sequence of root fragments is one too
-    checks.same("a large file's size", 10_000 < len(large) <= 60_000, True)
-    again = command("dump", "--notation", "-", given=large)
-    checks.same("a large file by the command", command("build", "-", given=again[1]),
-                (0, large, ""))
-    decimals(checks, rng)
+class RandomFiles(Case):
+    def test_random_files(self):
+        rng = random.Random(SEED)
+        files = [accepted_file(rng) for _ in range(FILES)]
+        refused = 0
+        for number, data in enumerate(files):
+            name = "random file %d of seed %d" % (number, SEED)
+            refusal = check(data)
+            self.same(name + " is accepted", refusal and refusal.answer(), None)
+            bad = spoiled(rng, data)
+            refused += check(bad) is not None
+            for kind, each in [("", data), (", spoiled", bad)]:
+                self.same(name + kind + ": notation", built(notation_of(each)).hex(), each.hex())
+                self.same(name + kind + ": hex", hexes.unhex(hex_of(each)).hex(), each.hex())
+            self.same(name + ": no raw is needed", "raw" in notation_of(data).split(), False)
+        self.same("most spoiled files are refused", refused > FILES / 2, True)
+        large = b"".join(files[:100])  # a sequence of root fragments is one too
+        self.same("a large file's size", 10_000 < len(large) <= 60_000, True)
+        again = command("dump", "--notation", "-", given=large)
+        self.same("a large file by the command", command("build", "-", given=again[1]),
+                  (0, large, ""))
+        self.decimals(rng)
 
-
-def decimals(checks, rng):
-    """Opacities read back, and one place fewer would not; judged by the machine's own floats."""
-    for _ in range(FILES):
-        bits = rng.randint(0x3A800000, 0x3F800000)
-        shown = floats.decimal(bits)
-        checks.same("%s reads back" % shown, single(shown), bits)
-        places = len(shown.partition(".")[2])
-        value = struct.unpack(">f", bits.to_bytes(4, "big"))[0]
-        shorter = "%.*f" % (max(places - 1, 0), value)
-        checks.same("%s, shorter than %s, reads back" % (shorter, shown),
-                    places > 0 and single(shorter) == bits, False)
+    def decimals(self, rng):
+        """Opacities read back, and one place fewer would not, by the machine's own floats."""
+        for _ in range(FILES):
+            bits = rng.randint(0x3A800000, 0x3F800000)
+            shown = floats.decimal(bits)
+            self.same("%s reads back" % shown, single(shown), bits)
+            places = len(shown.partition(".")[2])
+            value = struct.unpack(">f", bits.to_bytes(4, "big"))[0]
+            shorter = "%.*f" % (max(places - 1, 0), value)
+            self.same("%s, shorter than %s, reads back" % (shorter, shown),
+                      places > 0 and single(shorter) == bits, False)
 
 
 def single(decimal):

@@ -1,6 +1,6 @@
 """The check on files written by hand: each refusal with its place, and each conflict of order."""
 
-from harness import frag, nested_blocks, unspaced
+from harness import Case, frag, nested_blocks, unspaced
 
 from fraglib.reading import check
 
@@ -187,23 +187,23 @@ def all_cases():
                "accepted" if accepted else "refused 8 at 12")
 
 
-def run(checks):
-    lines = []
-    for name, data, answer in all_cases():
-        refusal = check(data)
-        checks.same("check: " + name, refusal.answer() if refusal else "accepted", answer)
-        lines.append("%s %s\n" % (data.hex(), answer))
-    compared(checks, lines)
+class Refusals(Case):
+    def test_refusals(self):
+        lines = []
+        for name, data, answer in all_cases():
+            refusal = check(data)
+            self.same("check: " + name, refusal.answer() if refusal else "accepted", answer)
+            lines.append("%s %s\n" % (data.hex(), answer))
+        self.compared(lines)
 
-
-def compared(checks, lines):
-    """The same cases through `check --lines`, and lines that must not pass there."""
-    told = frag("check", "--lines", given="".join(lines).encode())
-    checks.same("check --lines", told, (0, b"%d lines agree\n" % len(lines), ""))
-    for wrong, right in WRONG_LINES:
-        given = "".join(lines[:3]) + wrong + "\n050000 accepted\n"
-        status, out, _ = frag("check", "--lines", given=given.encode())
-        file, _, said = wrong.partition(" ")
-        expected = "line 4 disagrees: %s\n  the line says: %s\n  frag says: %s\n%s\n" % (
-            file or "(empty file)", said, right, "3 lines before it agree")
-        checks.same("check --lines finds " + wrong, (status, out.decode()), (1, expected))
+    def compared(self, lines):
+        """The same cases through `check --lines`, and lines that must not pass there."""
+        told = frag("check", "--lines", given="".join(lines).encode())
+        self.same("check --lines", told, (0, b"%d lines agree\n" % len(lines), ""))
+        for wrong, right in WRONG_LINES:
+            given = "".join(lines[:3]) + wrong + "\n050000 accepted\n"
+            status, out, _ = frag("check", "--lines", given=given.encode())
+            file, _, said = wrong.partition(" ")
+            expected = "line 4 disagrees: %s\n  the line says: %s\n  frag says: %s\n%s\n" % (
+                file or "(empty file)", said, right, "3 lines before it agree")
+            self.same("check --lines finds " + wrong, (status, out.decode()), (1, expected))

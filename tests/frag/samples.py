@@ -2,41 +2,41 @@
 
 import re
 
-from harness import SAMPLES, command, frag
+from harness import SAMPLES, Case, command, frag
 
 WANTED = {"call", "shader", "styles", "layout"}
 NUMBERS = set(range(3, 10))  # what a file alone can be refused by, but for its size
 
 
-def run(checks):
-    sound = sorted(SAMPLES.glob("*.frag"))
-    faulty = sorted((SAMPLES / "refused").glob("*.frag"))
-    checks.same("the samples there are", {each.stem for each in sound}, WANTED)
-    built = {each.with_suffix(".frag") for each in SAMPLES.rglob("*.fragment")}
-    checks.same("notation and built file come in pairs", built, set(sound + faulty))
-    for each in sound:
-        same_as_built(checks, each, "accepted")
-    numbers = set()
-    for each in faulty:
-        said = re.match(r"# (refused ([0-9]+) at [0-9]+): ", each.read_text(encoding="utf-8"))
-        checks.same("%s says its refusal" % each.name, said is not None, True)
-        if said:
-            numbers.add(int(said[2]))
-            same_as_built(checks, each, said[1])
-    checks.same("refusals that have a sample", numbers, NUMBERS)
+class Samples(Case):
+    def test_samples(self):
+        sound = sorted(SAMPLES.glob("*.frag"))
+        faulty = sorted((SAMPLES / "refused").glob("*.frag"))
+        self.same("the samples there are", {each.stem for each in sound}, WANTED)
+        built = {each.with_suffix(".frag") for each in SAMPLES.rglob("*.fragment")}
+        self.same("notation and built file come in pairs", built, set(sound + faulty))
+        for each in sound:
+            self.same_as_built(each, "accepted")
+        numbers = set()
+        for each in faulty:
+            said = re.match(r"# (refused ([0-9]+) at [0-9]+): ", each.read_text(encoding="utf-8"))
+            self.same("%s says its refusal" % each.name, said is not None, True)
+            if said:
+                numbers.add(int(said[2]))
+                self.same_as_built(each, said[1])
+        self.same("refusals that have a sample", numbers, NUMBERS)
 
-
-def same_as_built(checks, notation, answer):
-    stored = notation.with_suffix(".fragment").read_bytes()
-    status, built, warning = command("build", notation)
-    checks.same("%s builds to the file beside it" % notation.name, (status, built), (0, stored))
-    checks.same("%s: warned of a refused file alone" % notation.name, bool(warning),
-                answer != "accepted")
-    checks.same("%s: checked" % notation.name,
-                frag("check", notation.with_suffix(".fragment"))[:2],
-                (0 if answer == "accepted" else 1, answer.encode() + b"\n"))
-    again = frag("dump", "--notation", "-", given=stored)[1]
-    checks.same("%s: back in notation, and built again" % notation.name,
-                frag("build", "-", given=again)[1], stored)
-    as_hex = frag("hex", "-", given=stored)[1]
-    checks.same("%s: to hex and back" % notation.name, frag("unhex", given=as_hex)[1], stored)
+    def same_as_built(self, notation, answer):
+        stored = notation.with_suffix(".fragment").read_bytes()
+        status, built, warning = command("build", notation)
+        self.same("%s builds to the file beside it" % notation.name, (status, built), (0, stored))
+        self.same("%s: warned of a refused file alone" % notation.name, bool(warning),
+                  answer != "accepted")
+        self.same("%s: checked" % notation.name,
+                  frag("check", notation.with_suffix(".fragment"))[:2],
+                  (0 if answer == "accepted" else 1, answer.encode() + b"\n"))
+        again = frag("dump", "--notation", "-", given=stored)[1]
+        self.same("%s: back in notation, and built again" % notation.name,
+                  frag("build", "-", given=again)[1], stored)
+        as_hex = frag("hex", "-", given=stored)[1]
+        self.same("%s: to hex and back" % notation.name, frag("unhex", given=as_hex)[1], stored)

@@ -29,7 +29,7 @@ impl Refusal {
             6 => "a block inside 32 others",
             7 => "not UTF-8",
             8 => "a style that is not allowed",
-            9 => "a quote in an anchor",
+            9 => "quote in an anchor's name",
             Self::PAGE_TOO_SHORT => "the page needs so many bytes",
             _ => "no refusal of this library",
         }
