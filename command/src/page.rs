@@ -22,7 +22,7 @@ impl Kind {
     pub fn of(self, file: &mut [u8], width: usize) -> Result<Vec<u8>, Refusal> {
         layout_file(file, width)?;
         // room for nearly every page, so that it need not be measured first
-        let mut page = Vec::with_capacity(8 * file.len() + 2_048);
+        let mut page = Vec::with_capacity(2 * file.len() + 2_048);
         match self {
             Self::Plain => append_plain_page(file, &mut page)?,
             Self::Body => append_html_body(file, &mut page)?,
