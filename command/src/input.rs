@@ -7,8 +7,8 @@ use std::os::fd::AsFd;
 use std::os::unix::ffi::OsStrExt;
 use std::path::{Path, PathBuf};
 
-/// A file of more than 60,000 bytes is refused whatever it holds, so that one byte more is enough of it.
-const ENOUGH: usize = 60_001;
+/// A longer file is refused whatever it holds, so that one byte more than it may have is enough of it.
+const ENOUGH: usize = hazomeny::MOST_BYTES + 1;
 
 pub enum Source {
     Standard,

@@ -1,5 +1,5 @@
 #!/usr/bin/env python3
-"""Holds the C header and the Rust crate's C names to the proved entries: the same functions, with the same parameters by name, order and type,
+"""Holds the C header and the Rust crate's C names and limits to the proved entries: the same functions, with the same parameters by name, order and type,
 and the same return type. A linker compares none of this, and two parameters of one type can be swapped without a compiler's word."""
 
 import pathlib
@@ -13,6 +13,8 @@ ROOT = pathlib.Path(__file__).resolve().parents[2]
 PROVED = (ROOT / "crates" / "hazomeny" / "src" / "lib.rt").read_text()
 HEADER = (ROOT / "include" / "hazomeny.h").read_text()
 RUST = (ROOT / "bindings" / "rust" / "src" / "entries.rs").read_text()
+LIMITS = (ROOT / "bindings" / "rust" / "src" / "limits.rs").read_text()
+PROVED_LIMITS = (ROOT / "crates" / "rules" / "src" / "lib.rt").read_text()
 
 # What a parameter of a proved entry is in C and in Rust: a slice is a pointer and a length, and a page's length is called its room.
 LENGTHS = {"file": "length", "page": "room"}
@@ -51,7 +53,17 @@ def declared_in_rust(source):
     return [" ".join(each.split()).replace("( ", "(").replace(", )", ")") for each in found]
 
 
+def limits(source):
+    """The constants of a source, by name."""
+    return {name: int(value.replace("_", "")) for name, value in re.findall(r"pub const (\w+): \w+ = ([\d_]+);", source)}
+
+
 class Prototypes(unittest.TestCase):
+    def test_the_limits(self):
+        ours, proved = limits(LIMITS), limits(PROVED_LIMITS)
+        self.assertEqual(sorted(ours), ["MOST_BYTES", "MOST_COLUMNS"])
+        self.assertEqual(ours, {name: proved.get(name) for name in ours})
+
     def test_there_are_five(self):
         self.assertEqual([name for name, _, _ in entries()], [f"hazomeny_{each}" for each in ("check", "layout", "plain", "html_body", "html_document")])
 

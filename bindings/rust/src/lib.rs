@@ -20,15 +20,17 @@
 //! # Ok::<(), hazomeny::Refusal>(())
 //! ```
 //!
-//! The code behind these functions is a static library, `libhazomeny.a`, for x86-64 Linux. It uses no memory but the stack (less than 256 KiB
-//! of it), keeps no state, and may be called from any number of threads.
+//! The code behind these functions is a static library, `libhazomeny.a`, for x86-64 Linux. It uses no memory but the stack (under
+//! 16 KiB of it), keeps no state, and may be called from any number of threads.
 
 #![deny(missing_docs)]
 #![deny(unsafe_op_in_unsafe_fn)]
 
 mod entries;
+mod limits;
 mod refusal;
 
 pub use entries::{append_html_body, append_html_document, append_plain_page};
 pub use entries::{check_file, html_body, html_document, layout_file, plain_page};
+pub use limits::{MOST_BYTES, MOST_COLUMNS};
 pub use refusal::Refusal;

@@ -151,7 +151,7 @@ fn a_page_is_refused_by_10_just_when_it_does_not_fit() {
 
 #[test]
 fn limits_are_accepted() {
-    let text_bytes = vec![b'a'; 60_000 - 6];
+    let text_bytes = vec![b'a'; hazomeny::MOST_BYTES - 6];
     let deep = |tag| nested(tag, 32, Vec::new());
     for file in [Vec::new(), text(&text_bytes), deep(3), deep(4)] {
         assert_eq!(check_file(&file), Ok(0));

@@ -5,7 +5,7 @@ use std::thread;
 
 const STACK: usize = 256 << 10;
 const MOST_BLOCKS: usize = 32;
-const LONGEST_FILE: usize = 60_000;
+const LONGEST_FILE: usize = hazomeny::MOST_BYTES;
 
 fn field(tag: u8, value: &[u8]) -> Vec<u8> {
     let length = u16::try_from(value.len()).expect("the value is short");

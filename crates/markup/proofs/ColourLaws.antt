@@ -7,7 +7,7 @@ use Rattle.rules.specs.Html.{separated, colour-css}
 use Rattle.rules.specs.Walk.{right-opacity}
 use Rattle.styles.specs.declared.Styles.{Styles}
 use Rattle.styles.specs.Said.{flagged, said-styles, Allowed}
-use Rattle.styles.proofs.Lengths.{three}
+use Rattle.rules.proofs.Lengths.{three}
 
 -- ---- three bytes
 

@@ -16,7 +16,8 @@ use Rattle.rules.proofs.EmSizes.{AcceptedSize}
 use Rattle.rules.proofs.Open.{all-open}
 use Rattle.rules.proofs.Printed.{digits-small}
 use Rattle.rules.proofs.Shortest.{ten-pos}
-use Rattle.styles.proofs.EveryByte.{implies, below, of-byte}
+use Rattle.rules.proofs.EveryNumber.{below}
+use Rattle.styles.proofs.EveryByte.{implies, of-byte}
 use Rattle.opacities.proofs.Bounds.{places-few, whole-few}
 use Rattle.sizes.proofs.TextLengths.{em-text-length}
 

@@ -1,5 +1,5 @@
 -- Opacities and em sizes: each printed decimal is the shortest of its float, by document 01's rule, for every opacity and size that is accepted.
-use Rattle.rules.proofs.Basics.{_≡_, refl, sym, ap, _∙_, subst, Bool, true, false, _&&_, ℕ, zero, suc, _*_, _<_, _≤_, decLt, arith, T, ltb, ltb→lt, ℤ, pos, negsuc}
+use Rattle.rules.proofs.Basics.{_≡_, refl, sym, ap, _∙_, subst, Bool, false, _&&_, ℕ, _*_, _<_, _≤_, arith, T, ltb, ltb→lt, ℤ}
 use lib.Pow.{pow-pos}
 use lib.Ieee.{binary32, binary64, low}
 use lib.Ieee.Fits.{and-l, and-r}
@@ -7,6 +7,7 @@ use Rattle.rules.specs.Digits.{Decimal}
 use Rattle.rules.specs.Float.{mag, infinite, Nearest, Shortest}
 use Rattle.rules.specs.Search.{nearest, shortest}
 use Rattle.rules.specs.Sizes.{signed-decimal, one, steps, total, below-zero, Em, rounded, product-of, sum-of, em}
+use Rattle.rules.proofs.EveryNumber.{Within, each-within, at-within}
 use Rattle.rules.proofs.Open.{all-open}
 use Rattle.rules.proofs.Nearest.{nearest-of, nearest-unique}
 use Rattle.rules.proofs.Shortest.{shortest-right, shortest-unique}
@@ -20,8 +21,7 @@ opacity-right bits l = shortest-right binary32 false bits (omega arith)
 
 -- sizes -128 to 117
 abbrev pub AcceptedSize : ℤ → Type 0
-AcceptedSize (pos n) = n < 118
-AcceptedSize (negsuc n) = n < 128
+AcceptedSize size = Within 128 118 size
 
 abbrev finite-and-near : (b num : ℕ) → Bool
 finite-and-near b num = ltb b (infinite binary64) && nearest binary64 num one b
@@ -30,26 +30,12 @@ unfoldable em-test : ℤ → Bool
 em-test size =
     finite-and-near (product-of size) (steps size * mag binary64 (rounded 1 10)) && finite-and-near (sum-of size) (total size (mag binary64 (product-of size)))
 
--- the test at each number below n
-abbrev below : ℕ → (ℕ → Bool) → Bool
-below zero P = true
-below (suc n) P = P n && below n P
-
-at-each : (n : ℕ) (P : ℕ → Bool) → T (below n P) → (k : ℕ) → k < n → T (P k)
-at-each zero P t k h = absurd (omega arith)
-at-each (suc n) P t k h =
-    elim (decLt k n) [
-      | yes l ↦ at-each n P (and-r (P n) (below n P) t) k l
-      | no l ↦ let e : n ≡ k = omega arith in subst (λ (z : ℕ). T (P z)) e (and-l (P n) (below n P) t)
-    ]
-
-every-size : T (below 118 (λ n. em-test (pos n)) && below 128 (λ n. em-test (negsuc n)))
+every-size : T (each-within 128 118 em-test)
 unfolding all-open em-test
 every-size = tt
 
 tested : (size : ℤ) → AcceptedSize size → T (em-test size)
-tested (pos n) l = at-each 118 (λ n. em-test (pos n)) (and-l (below 118 (λ n. em-test (pos n))) (below 128 (λ n. em-test (negsuc n))) every-size) n l
-tested (negsuc n) l = at-each 128 (λ n. em-test (negsuc n)) (and-r (below 118 (λ n. em-test (pos n))) (below 128 (λ n. em-test (negsuc n))) every-size) n l
+tested = at-within 128 118 em-test every-size
 
 abbrev tenth-test : Bool
 tenth-test = ltb (rounded 1 10) (infinite binary64) && nearest binary64 1 10 (rounded 1 10)

@@ -11,6 +11,7 @@ pub mod Typed
 pub mod Files
 pub mod Maps
 pub mod Lists
+pub mod Lengths
 pub mod Stretches
 pub mod LayoutMap
 pub mod LinesMap
@@ -28,6 +29,7 @@ pub mod Demand3
 pub mod Refused
 pub mod Nearest
 pub mod Shortest
+pub mod EveryNumber
 pub mod EmSizes
 pub mod Printed
 pub mod Words

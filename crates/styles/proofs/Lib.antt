@@ -1,6 +1,5 @@
 -- Laws that the proofs of the code cite.
 pub mod EveryByte
-pub mod Lengths
 pub mod Opacity
 pub mod Parts
 pub mod Reading

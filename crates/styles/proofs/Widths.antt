@@ -14,7 +14,7 @@ use Rattle.styles.specs.StylesIn.{no-styles, right-value, put-part, with
 use Rattle.styles.proofs.StylesWritable.{effective-allowed, styles-writable}
 use Rattle.styles.specs.WidthIn.{sized, measure, script, width-with}
 use Rattle.styles.proofs.EveryByte.{of-byte}
-use Rattle.styles.proofs.Lengths.{number-one}
+use Rattle.rules.proofs.Lengths.{number-one}
 use Rattle.styles.proofs.Parts.{either}
 use Rattle.styles.proofs.Reading.{Left, all-left, next-left, stopped, ended}
 

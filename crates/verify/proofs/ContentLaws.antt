@@ -1,7 +1,8 @@
 -- The content of a value of bytes, by its tag and by what the tests say.
-use Rattle.rules.proofs.Basics.{_≡_, refl, sym, _∙_, List, [], _∷_, Bool, true, false, ℕ, _+_, _*_, _≤_, _<_, arith, leb, length, getD, le-leb, lt-leb, ne-eqb, eq-eqb, eqb-true}
+use Rattle.rules.proofs.Basics.{_≡_, refl, sym, _∙_, List, Bool, true, false, ℕ, _+_, _*_, _≤_, _<_, arith, leb, length, getD, le-leb, lt-leb, ne-eqb, eq-eqb, eqb-true}
+use Rattle.rules.proofs.Lengths.{number-one, number-four}
 use Rattle.rules.specs.Limits.{first-style}
-use Rattle.rules.specs.Bytes.{has, number, number-from}
+use Rattle.rules.specs.Bytes.{has, number}
 use Rattle.rules.specs.Utf8.{utf8}
 use Rattle.rules.specs.Result.{Result, refused, accepted, _>>_, need, sound}
 use Rattle.rules.specs.Walk.{text-content, anchor-content, content, right-length, right-opacity, right-size}
@@ -53,19 +54,7 @@ module _ (v : List ℕ) (p : ℕ) {u : Utf8} (e : u ≡ utf8-answer v) where
 -- ---- numbers
 
 pub number-of-four : (v : List ℕ) → length v ≡ 4 → ((getD v 0 0 * 256 + getD v 1 0) * 256 + getD v 2 0) * 256 + getD v 3 0 ≡ number v
-unfolding number number-from
-number-of-four [] e = absurd (omega arith)
-number-of-four (a ∷ []) e = absurd (omega arith)
-number-of-four (a ∷ b ∷ []) e = absurd (omega arith)
-number-of-four (a ∷ b ∷ c ∷ []) e = absurd (omega arith)
-number-of-four (a ∷ b ∷ c ∷ d ∷ []) e = omega arith
-number-of-four (a ∷ b ∷ c ∷ d ∷ x ∷ v) e = absurd (omega arith)
-
-number-of-one : (v : List ℕ) → length v ≡ 1 → getD v 0 0 ≡ number v
-unfolding number number-from
-number-of-one [] e = absurd (omega arith)
-number-of-one (a ∷ []) e = omega arith
-number-of-one (a ∷ x ∷ v) e = absurd (omega arith)
+number-of-four v e = omega (arith, number-four v e)
 
 module _ (b : ℕ) where
   pub opacity-zero : b ≡ 0 → true ≡ right-opacity b
@@ -119,11 +108,11 @@ module _ (t : ℕ) (v : List ℕ) where
 
     pub size-sound : t ≡ 35 → length v ≡ 1 → right-size (getD v 0 0) ≡ true → accepted tt ≡ sound (content t v) p
     unfolding content sound need _>>_
-    size-sound e l h = rw e (simp (← (number-of-one v l), h))
+    size-sound e l h = rw e (simp (← (number-one v l), h))
 
     pub size-faulty : t ≡ 35 → length v ≡ 1 → right-size (getD v 0 0) ≡ false → refused 8 p ≡ sound (content t v) p
     unfolding content sound need _>>_
-    size-faulty e l h = rw e (simp (← (number-of-one v l), h))
+    size-faulty e l h = rw e (simp (← (number-one v l), h))
 
     pub no-content : first-style ≤ t → (t ≡ 33 → ⊥) → (t ≡ 35 → ⊥) → accepted tt ≡ sound (content t v) p
     unfolding content sound need _>>_

@@ -1,5 +1,5 @@
 -- `styles::four_bytes` meets its contract: each byte is what `wide` says.
-use Rattle.styles.proofs.Lengths.{number-four}
+use Rattle.rules.proofs.Lengths.{number-four}
 use borrow.Author.Needs.{needs}
 use Rattle.styles.proofs.four_bytes.Statement.{statement}
 use Rattle.styles.proofs.four_bytes.Tie as tie

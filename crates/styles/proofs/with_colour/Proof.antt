@@ -3,7 +3,7 @@ use Rattle.rules.proofs.Basics.{ne-eqb, needs}
 use Rattle.styles.specs.Said.{said-styles, flagged}
 use Rattle.styles.specs.StylesIn.{right-value, put-part}
 use Rattle.rules.specs.Walk.{right-length}
-use Rattle.styles.proofs.Lengths.{three}
+use Rattle.rules.proofs.Lengths.{three}
 use Rattle.styles.proofs.Parts.{passed-over, put-colour}
 use Rattle.styles.proofs.with_colour.Statement.{statement}
 use Rattle.styles.proofs.with_colour.Tie as tie

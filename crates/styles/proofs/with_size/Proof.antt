@@ -6,7 +6,7 @@ use Rattle.styles.specs.Said.{said-styles, flagged}
 use Rattle.styles.specs.StylesIn.{right-value, put-part}
 use Rattle.rules.specs.Walk.{right-length}
 use Rattle.rules.specs.Tree.{signed-byte}
-use Rattle.styles.proofs.Lengths.{number-one}
+use Rattle.rules.proofs.Lengths.{number-one}
 use Rattle.styles.proofs.Parts.{passed-over, put-in}
 use Rattle.styles.proofs.Sizes.{size-tested}
 use Rattle.styles.proofs.with_size.Statement.{statement}

@@ -1,7 +1,7 @@
 -- `styles::with_size_width` meets its contract: by where the byte stands.
 use Rattle.rules.proofs.Basics.{arith, refl, eq-eqb, ne-eqb, lt-leb, needs}
 use Rattle.styles.proofs.Widths.{low-size, negative-size}
-use Rattle.styles.proofs.Lengths.{number-one}
+use Rattle.rules.proofs.Lengths.{number-one}
 use Rattle.rules.specs.Walk.{right-length, right-size}
 use Rattle.styles.specs.StylesIn.{right-value}
 use Rattle.styles.specs.WidthIn.{width-with}
