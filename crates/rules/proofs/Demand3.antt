@@ -29,6 +29,7 @@ use Rattle.rules.proofs.Turned.{layout-turns}
 use Rattle.rules.proofs.Reread.{read-same}
 use Rattle.rules.proofs.Places.{placed, like-places, shown-map, list-below}
 use Rattle.rules.proofs.Masked.{file-and-mask}
+use Rattle.rules.proofs.LeftLaid.{turned-bytes, laid, turns, turned-byte, laid-places, laid-passes, laid-by-width}
 use Rattle.rules.proofs.Filled.{same-changed, laid-texts}
 
 -- ---- one tree
@@ -154,48 +155,7 @@ one-list k s s′ q q′ F m =
       left′ = o′;
     }
 
--- ---- what layout leaves of one file
-
--- bytes of which a 4 became a 3 are bytes
-turned-bytes : (s u : List ℕ) → Turns s u → Bytes s → Bytes u
-turned-bytes [] [] x b = tt
-turned-bytes [] (y ∷ u) x b = absurd x
-turned-bytes (a ∷ s) [] x b = absurd x
-turned-bytes (a ∷ s) (y ∷ u) x b = (⊎-elim (λ (e : a ≡ y). omega arith) (λ h. omega arith) (x .0), turned-bytes s u (x .1) (b .1))
-
-texts-of-read : {s : List ℕ} {t : Frag ℕ} → Read s t → text-places s ≡ in-texts (frag-fields t)
-unfolding text-places accepted-texts
-texts-of-read R = ap accepted-texts (R .checked)
-
-module _ (w : ℕ) (s : List ℕ) (t : Frag ℕ) (bs : Bytes s) (e : tree s ≡ accepted t) where
-  abbrev laid : List ℕ
-  laid = encode (layout newline w t)
-
-  turns : Turns s laid
-  turns = rw (tree-read s t bs e .encodes) at (layout-turns newline w t)
-
-  turned-byte : (k : ℕ) → k < length s → at laid k ≡ three-at (has k (changed 0 s laid)) (at s k)
-  turned-byte k l = rw zero-add at (turned-at 0 k s laid l turns)
-
-  laid-places : text-places laid ≡ text-places s
-  laid-places =
-      let R = tree-read s t bs e in
-      let G = layout-good newline w t (R .good) in
-      texts-of-read (record { checked = good-check _ G; encodes = refl; good = G }) ∙ sym (laid-texts (layout-laid newline w t)) ∙ sym (texts-of-read R)
-
-  laid-passes : check-answer laid ≡ accepted 0
-  unfolding check-answer _>>=_
-  laid-passes = rw (layout-read newline w s t bs e)
-
-  -- an accepted file is not too long, so that only the width can be refused
-  laid-by-width : layout-outcome w s ≡ left-laid s (need (leb w most-columns) 2 0 >> accepted (layout newline w t))
-  unfolding layout-outcome laid-out need _>>_ _>>=_
-  laid-by-width =
-      let R = tree-read s t bs e in
-      let short : length s ≤ most-bytes = rw (R .encodes) at (R .good .short) in
-      rw (le-leb (length s) most-bytes short, e)
-
--- ---- and of two that are alike
+-- ---- what layout leaves of two files that are alike
 
 three-alike : (kept : List ℕ) (c m : Bool) (a b : ℕ) → Byte-alike kept m a b → Byte-alike kept m (three-at c a) (three-at c b)
 three-alike kept true true a b h = refl

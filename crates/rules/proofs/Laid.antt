@@ -21,6 +21,16 @@ mutual
     l-none : Laids none-left none-left
     l-frag : {f f′ : Frag X} {fs fs′ : Frags X} → Laid f f′ → Laids fs fs′ → Laids (frag f fs) (frag f′ fs′)
 
+mutual
+  pub laid-itself : {X : Type 0} (t : Frag X) → Laid t t
+  laid-itself stop = l-stop
+  laid-itself (leaf n r) = l-leaf (laid-itself r)
+  laid-itself (block k fs r) = l-block stays (laids-itself fs) (laid-itself r)
+
+  laids-itself : {X : Type 0} (fs : Frags X) → Laids fs fs
+  laids-itself none-left = l-none
+  laids-itself (frag f fs) = l-frag (laid-itself f) (laids-itself fs)
+
 turn-kept : (fits : Bool) (candidate : ℕ) → Turn flexible (kept-inline fits candidate .0)
 unfolding kept-inline
 turn-kept true candidate = stays

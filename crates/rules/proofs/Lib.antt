@@ -25,6 +25,7 @@ pub mod Reread
 pub mod Places
 pub mod Masked
 pub mod Filled
+pub mod LeftLaid
 pub mod Demand3
 pub mod Refused
 pub mod Nearest
@@ -33,4 +34,8 @@ pub mod EveryNumber
 pub mod EmSizes
 pub mod Printed
 pub mod Words
+pub mod Runs
+pub mod Said
+pub mod Visible
+pub mod SameWords
 pub mod Unique

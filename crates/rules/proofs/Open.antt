@@ -10,7 +10,7 @@ use Rattle.rules.specs.Walk.{holds, allowed, right-length, is-block, rig
 use Rattle.rules.specs.Tree.{bytes-of, fields-of, or-empty, map-fields, signed-byte, styles-of, run-of, runs-of, anchor-of, frag-of, read}
 use Rattle.rules.specs.Encode.{field, encode-fields, run-fields, runs-fields, anchor-tag, leaf-fields, block-tag, frag-fields, encode}
 use Rattle.rules.specs.Layout.{or-script, effective, not-negative, byte-width, styled-width, width, _⊕_, last, parts-shape, only-if-block, room, kept-inline, chosen, rigid-block, before, leaf-flexible, block-flexible, in-turn, nothing-yet, and-node, at-end, parts, rigid-text, rigid-runs, rigid, fragment-layout, layout}
-use Rattle.rules.specs.Lines.{later, styled, text-ops, run-ops, runs-ops, leaf-ops, ops, start, ignored, joined, target, making, release, levels, spacing, item, broken, step, run, items}
+use Rattle.rules.specs.Lines.{later, styled, text-ops, run-ops, runs-ops, leaf-ops, ops, start, ignored, joined, target, making, release, levels, spacing, item, broken, step, run, after, items}
 use Rattle.rules.specs.Plain.{chars, plain, fill}
 use Rattle.rules.specs.Float.{mag}
 use Rattle.rules.specs.Search.{nearest, prefers-lower, choice, at-places, found, from-places, shortest}
@@ -31,7 +31,7 @@ unfolding
     field encode-fields run-fields runs-fields anchor-tag leaf-fields block-tag frag-fields encode
     or-script effective not-negative byte-width styled-width width _⊕_ last parts-shape only-if-block room kept-inline chosen rigid-block
     before leaf-flexible block-flexible in-turn nothing-yet and-node at-end parts rigid-text rigid-runs rigid fragment-layout layout
-    later styled text-ops run-ops runs-ops leaf-ops ops start ignored joined target making release levels spacing item broken step run items chars plain fill
+    later styled text-ops run-ops runs-ops leaf-ops ops start ignored joined target making release levels spacing item broken step run after items chars plain fill
     mag nearest prefers-lower choice at-places found from-places shortest signed-decimal opacity-text total below-zero rounded product-of sum-of em em-text
     separated colour-css weight-css size-css script css tag-name attribute open-tag close-tag escape root opening closing makes copies escaped id-attribute mark-html item-html items-html body
     scope scoped lines style-element before-body after-body document

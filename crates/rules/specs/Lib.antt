@@ -20,5 +20,6 @@ pub mod Html
 pub mod Answers
 pub mod Mask
 pub mod Alike
+pub mod SameWords
 pub mod Cases
 pub mod Refusals

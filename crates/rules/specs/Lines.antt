@@ -174,6 +174,11 @@ module _ {X : Type 0} where
   run m [] = []
   run m (o ∷ os) = let r : List (Item X) × Machine = step m o in r .0 ++ run (r .1) os
 
+  -- the machine after operations
+  unfoldable pub after : Machine → List (LineOp X) → Machine
+  after m [] = m
+  after m (o ∷ os) = after (step m o .1) os
+
 -- the items of a tree's page; the root does not stand directly in a tag 3
 unfoldable pub items : {X : Type 0} → (newline : X → Bool) → Frag X → List (Item X)
 items newline t = run start (ops newline false t)
