@@ -1,36 +1,33 @@
 -- Demand 3 on the rules. Two accepted files that are equal but for bytes inside texts, newlines at the same places, are one tree over places filled
 -- in two ways. So layout changes the same tags and leaves such files again, and one list of page bytes gives both plain pages; for HTML with & and
 -- < at the same places.
-use Rattle.rules.proofs.Basics.{_≡_, refl, sym, _∙_, ap, ap₂, List, [], _∷_, map, Bool, true, false, inl, ⊎-elim, ℕ, suc, _≤_, _<_, zero-add, arith, leb, eqb, length, getD, leb-true, leb-false, le-leb}
+use Rattle.rules.proofs.Basics.{_≡_, refl, sym, _∙_, ap, ap₂, List, [], _∷_, map, Bool, true, false, inl, ℕ, suc, _≤_, _<_, zero-add, arith, leb, eqb, length, getD, leb-true, leb-false}
 use mathlib.Core.Path.{fun-ext}
 use lib.ListN.{List·getD-eq-default}
-use Rattle.rules.specs.Limits.{most-bytes, most-columns}
+use Rattle.rules.specs.Limits.{most-columns}
 use Rattle.rules.specs.Bytes.{if_then_else_, has, newline}
 use Rattle.rules.specs.Result.{accepted, refused, _>>=_, _>>_, need}
 use Rattle.rules.specs.Walk.{check, content}
 use Rattle.rules.specs.Tree.{Frag, frag-of, read}
-use Rattle.rules.specs.Encode.{frag-fields, encode}
+use Rattle.rules.specs.Encode.{encode}
 use Rattle.rules.specs.Layout.{layout}
 use Rattle.rules.specs.Lines.{Out, made, copied}
 use Rattle.rules.specs.Plain.{plain, fill}
 use Rattle.rules.specs.Html.{ampersand, less-than, as-it-is, escape, body, document}
-use Rattle.rules.specs.Good.{Bytes}
-use Rattle.rules.specs.Answers.{itself, tree, check-answer, laid-out, changed, left-laid, layout-outcome, written, left-page, plain-text, plain-outcome, body-text, body-outcome, document-text, document-outcome}
-use Rattle.rules.specs.Mask.{in-texts, accepted-texts, text-places, Byte-alike, Alike}
+use Rattle.rules.specs.Answers.{itself, tree, changed, left-laid, layout-outcome, written, left-page, plain-text, plain-outcome, body-text, body-outcome, document-text, document-outcome}
+use Rattle.rules.specs.Mask.{text-places, Byte-alike, Alike}
 use Rattle.rules.specs.Alike.{AlikeFiles, SameLayout, Page, plain-page, html-body, html-document, outcome-of, kept, shown, at, places, place-tree, page-list, OneList}
 use Rattle.rules.proofs.Maps.{map-frag}
-use Rattle.rules.proofs.Files.{Read, tree-read, good-check}
+use Rattle.rules.proofs.Files.{tree-read}
 use Rattle.rules.proofs.Laid.{layout-laid}
-use Rattle.rules.proofs.LaidFile.{layout-good, layout-read}
 use Rattle.rules.proofs.LayoutMap.{layout-map}
 use Rattle.rules.proofs.PageMap.{fill-map}
-use Rattle.rules.proofs.Changed.{Turns, turns-length, changed-same, three-at, turned-at}
-use Rattle.rules.proofs.Turned.{layout-turns}
+use Rattle.rules.proofs.Changed.{turns-length, changed-same, three-at}
 use Rattle.rules.proofs.Reread.{read-same}
 use Rattle.rules.proofs.Places.{placed, like-places, shown-map, list-below}
 use Rattle.rules.proofs.Masked.{file-and-mask}
 use Rattle.rules.proofs.LeftLaid.{turned-bytes, laid, turns, turned-byte, laid-places, laid-passes, laid-by-width}
-use Rattle.rules.proofs.Filled.{same-changed, laid-texts}
+use Rattle.rules.proofs.Filled.{same-changed}
 
 -- ---- one tree
 

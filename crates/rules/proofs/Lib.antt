@@ -38,4 +38,7 @@ pub mod Runs
 pub mod Said
 pub mod Visible
 pub mod SameWords
+pub mod SoundFields
+pub mod ItemCosts
+pub mod PageLengths
 pub mod Unique

@@ -1,24 +1,21 @@
 -- THE SAME WORDS AT EVERY WIDTH: layout turns the tags of blocks alone, and those give breaks and indents alone.
-use Rattle.rules.proofs.Basics.{_≡_, refl, sym, _∙_, ap, ap₂, List, [], _∷_, _++_, map, append-assoc, append-nil, Option, none, some, Bool, true, false, _||_, _&&_, and-eq-true-iff, or-true, ℕ, _≤_, _<_, arith, leb, ltb, eqb, leb-true, ne-eqb}
-use Rattle.rules.specs.Limits.{first-style, last-style}
-use Rattle.rules.specs.Bytes.{if_then_else_, within, newline}
+use Rattle.rules.proofs.Basics.{_≡_, refl, sym, _∙_, ap, ap₂, List, [], _∷_, _++_, append-assoc, Option, none, some, Bool, true, false, _||_, _&&_, and-eq-true-iff, or-true, ℕ, eqb}
+use Rattle.rules.specs.Bytes.{if_then_else_, newline}
 use Rattle.rules.specs.Result.{accepted, _>>=_}
-use Rattle.rules.specs.Walk.{Fields, end, bytes, inside, in-fragment, in-block, in-text, in-anchor, in-styles, holds, allowed}
-use Rattle.rules.specs.Tree.{styles-of, Run, Leaf, text, anchor, space, force, if-block, Kind, indented, flexible, Frag, stop, leaf, block, Frags, none-left, frag}
-use Rattle.rules.specs.Encode.{run-fields, runs-fields, anchor-tag, leaf-fields, block-tag, frag-fields, frags-fields, encode}
-use Rattle.rules.specs.Good.{Bytes, Good, GoodTree}
-use Rattle.rules.specs.Layout.{parts, layout}
-use Rattle.rules.specs.Lines.{LineOp, part, mark, Mark, push, pop, open-anchor, close-anchor, Item, char, marked, made, copied, later, styled, text-ops, run-ops, runs-ops, leaf-ops, ops, indented-ops, inline-ops, start, items}
-use Rattle.rules.specs.Plain.{chars, fill}
-use Rattle.rules.specs.Answers.{itself, tree, check-answer, laid-out, left-laid, layout-outcome}
-use Rattle.rules.specs.Mask.{is-text}
+use Rattle.rules.specs.Walk.{Fields, bytes}
+use Rattle.rules.specs.Tree.{styles-of, Run, Leaf, text, anchor, space, force, if-block, indented, flexible, Frag, Frags}
+use Rattle.rules.specs.Encode.{run-fields, runs-fields, anchor-tag, leaf-fields, frag-fields, frags-fields}
+use Rattle.rules.specs.Good.{Bytes}
+use Rattle.rules.specs.Layout.{parts}
+use Rattle.rules.specs.Lines.{LineOp, part, mark, Mark, push, pop, open-anchor, close-anchor, char, marked, copied, later, styled, text-ops, run-ops, runs-ops, leaf-ops, ops, indented-ops, inline-ops, start, items}
+use Rattle.rules.specs.Plain.{chars}
+use Rattle.rules.specs.Answers.{tree, check-answer, layout-outcome}
 use Rattle.rules.specs.SameWords.{white, white-item, without, words, visible, marks, accepted-fields, file-fields, texts, without-7, page-items, SaysTheSame}
 use Rattle.rules.proofs.Chains.{no-path, bind-inv}
-use Rattle.rules.proofs.Typed.{inner-good, fields-not}
 use Rattle.rules.proofs.Files.{Read, tree-read}
 use Rattle.rules.proofs.Laid.{Laid, l-stop, l-leaf, l-block, Laids, l-none, l-frag, laid-itself}
 use Rattle.rules.proofs.LeftLaid.{Left, left-itself, left-by-layout}
-use Rattle.rules.proofs.Runs.{Ops, Items, chars-append}
+use Rattle.rules.proofs.Runs.{Ops, Items}
 use Rattle.rules.proofs.Said.{spoken, text-said, run-said, runs-said, leaf-said, frag-said, frags-said, frag-spoken}
 use Rattle.rules.proofs.Visible.{visible-append, words-visible, marks-visible, own-items, showing, run-visible}
 

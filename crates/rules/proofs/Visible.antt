@@ -1,7 +1,7 @@
 -- What the line machine adds is white: of a run shows what its operations hold themselves.
-use Rattle.rules.proofs.Basics.{_≡_, refl, sym, _∙_, ap, List, [], _∷_, _++_, map, Option, none, some, Bool, true, false, ℕ, zero, suc, _-_, _*_, ltb, replicate}
+use Rattle.rules.proofs.Basics.{_≡_, refl, _∙_, ap, List, [], _∷_, _++_, Option, none, some, Bool, true, false, ℕ, zero, suc, _-_, _*_, ltb, replicate}
 use Rattle.rules.specs.Bytes.{if_then_else_, newline}
-use Rattle.rules.specs.Lines.{LineOp, part, mark, empty-anchor, new-line, break, indent, unindent, open-anchor, close-anchor, Break, a-space, a-newline, Line, empty, indented-by, has-text, Machine, Out, Item, char, marked, made, copied, ignored, target, making, release, levels, spacing, item, broken, step, run}
+use Rattle.rules.specs.Lines.{LineOp, part, mark, empty-anchor, new-line, break, indent, unindent, open-anchor, close-anchor, Break, a-space, a-newline, Line, empty, indented-by, has-text, Machine, Out, char, marked, made, copied, ignored, target, making, release, levels, spacing, item, broken, step, run}
 use Rattle.rules.specs.Plain.{chars, fill}
 use Rattle.rules.specs.Answers.{itself}
 use Rattle.rules.specs.SameWords.{white, white-item, without, words, visible, marks}
