@@ -1,4 +1,4 @@
--- Every answer's number fits 64 bits and loses nothing: places and counts are at most a file's length, a page is shorter than 2^50 bytes, and refusals
+-- Every answer's number fits 64 bits and loses nothing: places and counts are at most a file's length, a page is shorter than 2^24 bytes, and refusals
 -- have numbers of 1 to 255.
 use Rattle.rules.proofs.Basics.{_≡_, refl, sym, subst, _∙_, ap, List, Bool, true, false, ℕ, _^_, _<_, arith, leb, length, getD, leb-true}
 use Rattle.rules.specs.Limits.{most-bytes, most-columns}
@@ -7,17 +7,16 @@ use Rattle.rules.specs.Result.{Result, refused, accepted, _>>=_, _>>_, need}
 use Rattle.rules.specs.Tree.{Frag}
 use Rattle.rules.specs.Encode.{encode}
 use Rattle.rules.specs.Layout.{layout}
-use Rattle.rules.specs.Good.{Bytes, GoodTree}
+use Rattle.rules.specs.Good.{Bytes}
 use Rattle.rules.specs.Plain.{fill}
 use Rattle.rules.specs.Html.{escape}
 use Rattle.rules.specs.Answers.{itself, tree, check-answer, laid-out, left-laid, layout-outcome, written, left-page, coded, coded-outcome}
-use Rattle.rules.specs.Alike.{Page, plain-page, html-body, html-document, outcome-of, shown}
+use Rattle.rules.specs.Alike.{Page, outcome-of, shown}
 use Rattle.rules.proofs.Files.{Read, tree-read}
 use Rattle.rules.proofs.Refused.{Refusable, too-long, at-fault, refused-place}
 use Rattle.rules.proofs.Unique.{Numbered}
 use Rattle.rules.proofs.Demand3.{by-kind}
-use Rattle.pages.proofs.PageLengths.{plain-short}
-use Rattle.pages.proofs.HtmlLengths.{body-short, document-short}
+use Rattle.pages.proofs.HtmlLengths.{page-short}
 use Rattle.verify.proofs.Verdicts.{every-byte}
 use Rattle.layout.proofs.Counted.{changed-le}
 
@@ -53,15 +52,10 @@ told-layout w s = go (leb (length s) most-bytes) (leb w most-columns) (tree s) r
     go true true (refused n p) e f = told-refused s n p f
     go true true (accepted t) e f = omega (arith, changed-le 0 s (encode (layout newline w t)), leb-true (length s) most-bytes e)
 
-told-written : (fits : Bool) (text page : List ℕ) → length text < 2 ^ 50 → Told (written fits text page .0)
+told-written : (fits : Bool) (text page : List ℕ) → length text < 2 ^ 24 → Told (written fits text page .0)
 unfolding written coded
 told-written true text page h = omega arith
 told-written false text page h = omega arith
-
-short : (k : Page) (t : Frag ℕ) → GoodTree t → Bytes (encode t) → length (fill itself (shown k escape newline t)) < 2 ^ 50
-short plain-page t G b = plain-short t G
-short html-body t G b = body-short t G b
-short html-document t G b = document-short t G b
 
 pub told-page : (k : Page) (s page : List ℕ) → Bytes s → Told (outcome-of k s page .0)
 unfolding left-page _>>=_
@@ -72,7 +66,7 @@ told-page k s page b = rw (by-kind k s page) (go (tree s) refl)
     go (accepted t) f =
         let R : Read s t = tree-read s t b f in
         let text = fill itself (shown k escape newline t) in
-        told-written (leb (length text) (length page)) text page (short k t (R .good) (subst Bytes (sym (R .encodes)) b))
+        told-written (leb (length text) (length page)) text page (page-short k t (R .good) (subst Bytes (sym (R .encodes)) b))
 
 -- an answer that is an outcome's, and its number with the bytes left
 pub coded-fits : {a : Result ℕ} {s : List ℕ} (o : Result ℕ × List ℕ) → Told (o .0) → (a, s) ≡ o → coded a < 2 ^ 64

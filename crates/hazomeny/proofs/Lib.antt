@@ -3,4 +3,5 @@
 pub mod Fits
 pub mod Written
 pub mod Demand3
+pub mod EveryWidth
 pub mod WrongPrograms

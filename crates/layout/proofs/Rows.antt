@@ -7,7 +7,8 @@ use Rattle.rules.specs.Answers.{changed}
 use Rattle.rules.proofs.Changed.{changed-append, changed-same}
 use Rattle.parts.specs.Walk.{walk, over}
 use Rattle.parts.proofs.Loops.{walk-nil}
-use Rattle.parts.proofs.OfFields.{length-field, walk-field}
+use Rattle.rules.proofs.SoundFields.{length-field}
+use Rattle.parts.proofs.OfFields.{walk-field}
 use Rattle.rigid.specs.RigidIn.{rigid-in}
 use Rattle.layout.specs.LaidIn.{Laid, past-in, with-node, with-fragment}
 use Rattle.rules.proofs.Stretches.{cap-min}

@@ -2,7 +2,8 @@
 use Rattle.rules.proofs.Basics.{_≡_, refl, _∙_, List, [], _∷_, _++_, true, ℕ, zero, suc, _≤_, _<_, arith, leb, length, length-append, drop-at, le-leb}
 use Rattle.rules.specs.Encode.{field}
 use Rattle.parts.specs.Walk.{here, rest}
-use Rattle.parts.proofs.OfFields.{length-field, here-field, rest-field}
+use Rattle.rules.proofs.SoundFields.{length-field}
+use Rattle.parts.proofs.OfFields.{here-field, rest-field}
 use Rattle.pages.specs.OpsIn.{Ops, each, each-from}
 
 -- f gives os at the fields of s, for any fuel that is enough

@@ -1,5 +1,5 @@
--- How long the HTML body and document of a good tree can be: what their items cost, and the fixed bytes around them.
-use Rattle.rules.proofs.Basics.{_≡_, refl, List, [], _∷_, _++_, Bool, true, false, ℕ, _+_, _*_, _≤_, _<_, arith, leb→le, length, length-append, length-map}
+-- How long the HTML body and document of a good tree can be: what their items cost, and the fixed bytes around them. And how long any page can be.
+use Rattle.rules.proofs.Basics.{_≡_, refl, List, [], _∷_, _++_, Bool, true, false, ℕ, _+_, _*_, _^_, _≤_, _<_, arith, leb→le, length, length-append, length-map}
 use Rattle.rules.specs.Bytes.{ascii, newline}
 use Rattle.rules.specs.Walk.{Fields, in-styles}
 use Rattle.rules.specs.Tree.{Styles, styles-of, Frag}
@@ -9,11 +9,12 @@ use Rattle.rules.specs.Lines.{Out, made, copied, push, pop, open-anchor, close-
 use Rattle.rules.specs.Plain.{fill}
 use Rattle.rules.specs.Html.{open-tag, close-tag, Escape, ampersand, less-than, as-it-is, escape, opening, closing, makes, copies, escaped, id-attribute, mark-html, item-html, items-html, body, before-body, after-body, document}
 use Rattle.rules.specs.Answers.{itself}
+use Rattle.rules.specs.Alike.{Page, plain-page, html-body, html-document, shown}
 use Rattle.rules.proofs.Open.{all-open}
 use Rattle.rules.proofs.Demand3.{fill-length}
-use Rattle.pages.proofs.ItemCosts.{cost-all}
-use Rattle.pages.proofs.PageLengths.{items-cost}
-use Rattle.pages.proofs.StyleLengths.{bytes-inside, bytes-here, open-tag-most, close-tag-most}
+use Rattle.rules.proofs.ItemCosts.{cost-all, pay}
+use Rattle.rules.proofs.PageLengths.{items-paid, plain-most}
+use Rattle.pages.proofs.StyleLengths.{open-tag-most, close-tag-most}
 
 -- ---- an item
 
@@ -70,51 +71,54 @@ close-most : html-cost (marked close-anchor) ≤ 144
 unfolding html-cost item-html mark-html makes ascii
 close-most = omega arith
 
--- all of them
-items-most : (t : Frag ℕ) → GoodTree t → Bytes (encode t) → cost-all html-cost (items newline t) ≤ 30_000_000_000
-unfolding encode
-items-most =
-    items-cost (λ j. Bytes (encode-fields j)) bytes-inside (λ t v r z. bytes-here t v r z .1) html-cost 144
-    made-1 copied-most push-most (λ d before j G z. pop-most (styles-of j)) open-most close-most (omega arith)
+-- THE ITEMS OF A PAGE COST AT MOST 210 BYTES OF HTML FOR EACH BYTE OF THE FILE
+items-most : (t : Frag ℕ) → GoodTree t → Bytes (encode t) → cost-all html-cost (items newline t) ≤ 210 * length (encode t)
+unfolding pay
+items-most t G z =
+    omega (arith, items-paid html-cost 144 made-1 copied-most push-most (λ j. pop-most (styles-of j)) open-most close-most t G z)
 
 -- ---- the pages
+
+-- THE BODY IS NO LONGER THAN THAT, WITH ITS OPENING AND CLOSING; THE DOCUMENT HAS A FRAME MORE
+pub body-most : (t : Frag ℕ) → GoodTree t → Bytes (encode t) → length (fill itself (body escape newline t)) ≤ 210 * length (encode t) + (length opening + length closing)
+unfolding body
+body-most t G z =
+    let is : List (Item ℕ) = items newline t in
+    omega (
+      arith,
+      fill-length itself (body escape newline t),
+      length-append (makes {X = ℕ} opening) (items-html escape is ++ makes closing),
+      length-append (items-html escape is) (makes closing),
+      length-makes opening,
+      length-makes closing,
+      items-length is,
+      items-most t G z,
+    )
+
+pub document-most : (t : Frag ℕ) → GoodTree t → Bytes (encode t)
+    → length (fill itself (document escape newline t)) ≤ 210 * length (encode t) + (length opening + length closing) + (length before-body + length after-body)
+unfolding document
+document-most t G z =
+    omega (
+      arith,
+      fill-length itself (document escape newline t),
+      fill-length itself (body escape newline t),
+      length-append (makes {X = ℕ} before-body) (body escape newline t ++ makes after-body),
+      length-append (body escape newline t) (makes after-body),
+      length-makes before-body,
+      length-makes after-body,
+      body-most t G z,
+    )
+
+-- ---- every page
 
 -- the fixed bytes
 fixed-most : (length opening ≤ 4_096) × (length closing ≤ 4_096) × (length before-body ≤ 4_096) × (length after-body ≤ 4_096)
 unfolding all-open
 fixed-most = (leb→le _ _ tt, leb→le _ _ tt, leb→le _ _ tt, leb→le _ _ tt)
 
-body-most : (t : Frag ℕ) → GoodTree t → Bytes (encode t) → length (body escape newline t) ≤ 30_000_008_192
-unfolding body
-body-most t G z =
-    let is : List (Item ℕ) = items newline t in
-    omega (
-      arith,
-      length-append (makes {X = ℕ} opening) (items-html escape is ++ makes closing),
-      length-append (items-html escape is) (makes closing),
-      length-makes opening,
-      length-makes closing,
-      fixed-most .0,
-      fixed-most .1,
-      items-length is,
-      items-most t G z,
-    )
-
--- THE BODY AND THE DOCUMENT OF A GOOD TREE WHOSE FILE IS BYTES ARE SHORTER THAN 2^50
-pub body-short : (t : Frag ℕ) → GoodTree t → Bytes (encode t) → length (fill itself (body escape newline t)) < 1_125_899_906_842_624
-body-short t G z = omega (arith, fill-length itself (body escape newline t), body-most t G z)
-
-pub document-short : (t : Frag ℕ) → GoodTree t → Bytes (encode t) → length (fill itself (document escape newline t)) < 1_125_899_906_842_624
-unfolding document
-document-short t G z =
-    omega (
-      arith,
-      fill-length itself (document escape newline t),
-      length-append (makes {X = ℕ} before-body) (body escape newline t ++ makes after-body),
-      length-append (body escape newline t) (makes after-body),
-      length-makes before-body,
-      length-makes after-body,
-      fixed-most .2,
-      fixed-most .3,
-      body-most t G z,
-    )
+-- A PAGE OF A GOOD TREE WHOSE FILE IS BYTES IS SHORTER THAN 2^24
+pub page-short : (k : Page) (t : Frag ℕ) → GoodTree t → Bytes (encode t) → length (fill itself (shown k escape newline t)) < 2 ^ 24
+page-short plain-page t G z = omega (arith, plain-most t G z, G .short)
+page-short html-body t G z = omega (arith, body-most t G z, G .short, fixed-most .0, fixed-most .1)
+page-short html-document t G z = omega (arith, document-most t G z, G .short, fixed-most .0, fixed-most .1, fixed-most .2, fixed-most .3)

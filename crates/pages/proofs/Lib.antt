@@ -2,8 +2,6 @@
 pub mod EachOf
 pub mod OfLeaves
 pub mod OfTrees
-pub mod ItemCosts
-pub mod PageLengths
 pub mod StyleLengths
 pub mod HtmlLengths
 pub mod StateLaws

@@ -1,6 +1,6 @@
 -- What the pen writes: an operation's own bytes, all of one operation, and a mark of which nothing shows.
 use Rattle.rules.proofs.Basics.{_≡_, refl, sym, ap, _∙_, List, [], _∷_, _++_, append-nil, Bool, true, none, ℕ, _/_, _%_, arith, eqb→eq}
-use Rattle.rules.specs.Lines.{Mark, push, pop, open-anchor, close-anchor, LineOp, mark, Machine, has-text, Item, marked, making, release, spacing, item, step, run}
+use Rattle.rules.specs.Lines.{Mark, push, pop, open-anchor, close-anchor, LineOp, mark, Machine, has-text, Item, marked, making, release, spacing, item, step, run, after}
 use Rattle.rules.specs.Plain.{chars, fill}
 use Rattle.rules.specs.Html.{escape, mark-html, item-html, items-html}
 use Rattle.rules.specs.Answers.{itself}
@@ -11,7 +11,7 @@ use Rattle.lines.specs.declared.LineOp as O
 use Rattle.lines.specs.declared.Machine as M
 use Rattle.lines.specs.declared.Stepped.{Stepped}
 use Rattle.lines.specs.Said.{machine-of, before-bytes, step-of, operation, copies, own}
-use Rattle.pages.specs.Ran.{shown, after, machine, form, Ran, IsMark, Interpreted}
+use Rattle.pages.specs.Ran.{shown, machine, form, Ran, IsMark, Interpreted}
 use Rattle.pages.specs.States.{line-numbered, waiting-numbered, form-numbered, machine-in, form-in, quiet}
 use Rattle.pages.specs.declared.state.Form as F
 use Rattle.pages.specs.declared.pen.Pen.{Pen}

@@ -2,7 +2,7 @@
 use Rattle.rules.proofs.Basics.{_≡_, refl, sym, ap, _∙_, List, [], _∷_, _++_, append-assoc, ℕ, suc, length}
 use Prim.Native.Nat.{pred}
 use Rattle.rules.specs.Lines as rules
-use Rattle.rules.specs.Lines.{Machine, Out, Item, char, made, copied, marked, LineOp, step, run, item, ignored}
+use Rattle.rules.specs.Lines.{Machine, Out, Item, LineOp, step, run, after, item, ignored}
 use Rattle.rules.specs.Plain.{chars, fill}
 use Rattle.rules.specs.Html.{escape, item-html, items-html}
 use Rattle.rules.specs.Answers.{itself}
@@ -11,19 +11,12 @@ use Rattle.markup.proofs.Fills.{fill-append}
 use Rattle.lines.specs.Said.{break-of, operation}
 use Rattle.lines.specs.declared.LineOp as Op
 use Rattle.pages.specs.OpsIn.{Ops}
-use Rattle.pages.specs.Ran.{shown, after, machine, form, indent-of, Ran, Interpreted, Rendered}
+use Rattle.pages.specs.Ran.{shown, machine, form, indent-of, Ran, Interpreted, Rendered}
 use Rattle.pages.specs.declared.state.Form as F
 use Rattle.pages.specs.declared.pen.Pen.{Pen}
-use Rattle.pages.proofs.ItemCosts.{broken-level}
+use Rattle.rules.proofs.Runs.{chars-append, after-append, run-append, broken-level}
 
 -- ---- what items show
-
-chars-append : (xs ys : List (Item ℕ)) → fill itself (chars (xs ++ ys)) ≡ fill itself (chars xs) ++ fill itself (chars ys)
-unfolding chars fill
-chars-append [] ys = refl
-chars-append (char (made b) ∷ xs) ys = ap (λ (s : List ℕ). b ∷ s) (chars-append xs ys)
-chars-append (char (copied x) ∷ xs) ys = ap (λ (s : List ℕ). x ∷ s) (chars-append xs ys)
-chars-append (marked k ∷ xs) ys = chars-append xs ys
 
 html-append : (xs ys : List (Item ℕ)) → items-html escape (xs ++ ys) ≡ items-html escape xs ++ items-html escape ys
 unfolding items-html
@@ -38,18 +31,6 @@ shown-append F.the-variants.Plain xs ys = chars-append xs ys
 shown-append F.the-variants.Html xs ys = ap (fill itself) (html-append xs ys) ∙ fill-append (items-html escape xs) (items-html escape ys)
 
 -- ---- operations in a row
-
-after-append : (m : Machine) (xs ys : Ops) → after m (xs ++ ys) ≡ after (after m xs) ys
-unfolding after
-after-append m [] ys = refl
-after-append m (o ∷ xs) ys = after-append (step m o .1) xs ys
-
-run-append : (m : Machine) (xs ys : Ops) → run m (xs ++ ys) ≡ run m xs ++ run (after m xs) ys
-unfolding after run
-run-append m [] ys = refl
-run-append m (o ∷ xs) ys =
-    ap (λ (is : List (Item ℕ)). step m o .0 ++ is) (run-append (step m o .1) xs ys)
-    ∙ sym (append-assoc (step m o .0) (run (step m o .1) xs) (run (after (step m o .1) xs) ys))
 
 module _ {p p′ p″ : Pen} {page page′ page″ : List ℕ} {xs ys : Ops} where
   pub then-ran : Ran xs p page p′ page′ → Ran ys p′ page′ p″ page″ → Ran (xs ++ ys) p page p″ page″

@@ -12,7 +12,7 @@ use Rattle.pages.specs.States.{line-numbered, waiting-numbered, form-num
 use Rattle.pages.specs.Ran.{machine, indent-of}
 use Rattle.pages.specs.declared.state.Form as F
 use Rattle.pages.specs.declared.pen.Pen.{Pen}
-use Rattle.pages.proofs.ItemCosts.{target-le, step-level}
+use Rattle.rules.proofs.Runs.{target-le, step-level}
 
 -- ---- taken out
 

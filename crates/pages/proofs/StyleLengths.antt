@@ -8,32 +8,19 @@ use Rattle.rules.specs.Search.{shortest}
 use Rattle.rules.specs.Sizes.{signed-decimal, opacity-text, em-text}
 use Rattle.rules.specs.Walk.{Fields, end, bytes, inside, in-styles, right-length, right-opacity, right-size, content}
 use Rattle.rules.specs.Tree.{Styles, bytes-of, signed-byte, styles-of}
-use Rattle.rules.specs.Encode.{field, encode-fields}
+use Rattle.rules.specs.Encode.{encode-fields}
 use Rattle.rules.specs.Good.{Bytes, AllHold, Good}
 use Rattle.rules.specs.Layout.{or-script, effective}
 use Rattle.rules.specs.Html.{separated, colour-css, weight-css, size-css, script, css, tag-name, attribute, open-tag, close-tag}
 use Rattle.rules.proofs.EmSizes.{AcceptedSize}
 use Rattle.rules.proofs.Open.{all-open}
+use Rattle.rules.proofs.SoundFields.{bytes-inside, bytes-here}
 use Rattle.rules.proofs.Printed.{digits-small}
 use Rattle.rules.proofs.Shortest.{ten-pos}
 use Rattle.rules.proofs.EveryNumber.{below}
 use Rattle.styles.proofs.EveryByte.{implies, of-byte}
 use Rattle.opacities.proofs.Bounds.{places-few, whole-few}
 use Rattle.sizes.proofs.TextLengths.{em-text-length}
-
--- ---- fields that are bytes
-
-split-bytes : (a b : List ℕ) → Bytes (a ++ b) → Bytes a × Bytes b
-split-bytes [] b z = (tt, z)
-split-bytes (x ∷ a) b z = let (y, w) = split-bytes a b (z .1) in ((z .0, y), w)
-
-pub bytes-inside : (t : ℕ) (i r : Fields ℕ) → Bytes (encode-fields (inside t i r)) → Bytes (encode-fields i) × Bytes (encode-fields r)
-unfolding encode-fields field
-bytes-inside t i r z = split-bytes (encode-fields i) (encode-fields r) (z .1 .1 .1)
-
-pub bytes-here : (t : ℕ) (v : List ℕ) (r : Fields ℕ) → Bytes (encode-fields (bytes t v r)) → Bytes v × Bytes (encode-fields r)
-unfolding encode-fields field
-bytes-here t v r z = split-bytes v (encode-fields r) (z .1 .1 .1)
 
 -- ---- the values of a good style
 

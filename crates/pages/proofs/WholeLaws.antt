@@ -11,6 +11,7 @@ use Rattle.rules.specs.Good.{Bytes, GoodTree}
 use Rattle.rules.specs.Lines.{start, Item, items}
 use Rattle.rules.specs.Plain.{plain, fill}
 use Rattle.rules.specs.Html.{escape, makes, items-html, opening, closing, before-body, after-body, body, document}
+use Rattle.rules.specs.Alike.{plain-page, html-body, html-document}
 use Rattle.rules.specs.Answers.{itself, tree, check-answer, written, left-page, plain-text, plain-outcome, body-text, body-outcome, document-text, document-outcome}
 use Rattle.verify.proofs.Verdicts.{RefusedSo, refused-so, AcceptedAs, accepted-as}
 use Rattle.writing.specs.Written.{last, Written}
@@ -23,8 +24,7 @@ use Rattle.pages.specs.declared.frame.Kind as K
 use Rattle.pages.specs.declared.frame.Kind.{Kind}
 use Rattle.pages.specs.declared.pen.Pen.{Pen}
 use Rattle.pages.proofs.OfTrees.{ops-tree}
-use Rattle.pages.proofs.PageLengths.{plain-short}
-use Rattle.pages.proofs.HtmlLengths.{body-short, document-short}
+use Rattle.pages.proofs.HtmlLengths.{page-short}
 use Rattle.markup.proofs.Fills.{fill-append, fill-makes}
 
 -- ---- the pen over a whole file
@@ -62,9 +62,9 @@ page-by-bytes K.the-variants.Document t G = rw (ops-tree t G) (sym (framed-items
 
 page-last : (k : Kind) (t : Frag ℕ) → GoodTree t → Bytes (encode t) → length (page-of k t) ≤ last
 unfolding page-of
-page-last K.the-variants.Plain t G b = omega (arith, plain-short t G)
-page-last K.the-variants.Body t G b = omega (arith, body-short t G b)
-page-last K.the-variants.Document t G b = omega (arith, document-short t G b)
+page-last K.the-variants.Plain t G b = omega (arith, page-short plain-page t G b)
+page-last K.the-variants.Body t G b = omega (arith, page-short html-body t G b)
+page-last K.the-variants.Document t G b = omega (arith, page-short html-document t G b)
 
 -- what a kind answers, by its page
 outcome-of : (k : Kind) (s page : List ℕ) → left-page (tree s >>= (λ t. accepted (page-of k t))) page ≡ page-outcome k s page

@@ -2,7 +2,7 @@
 use mathlib.Core.Path.{_≡_}
 use mathlib.Core.List.{List, [], _∷_}
 use Prim.Native.Nat.{ℕ}
-use Rattle.rules.specs.Lines.{Machine, Item, step, run}
+use Rattle.rules.specs.Lines.{Machine, Item, run, after}
 use Rattle.rules.specs.Plain.{chars, fill}
 use Rattle.rules.specs.Html.{escape, items-html}
 use Rattle.rules.specs.Answers.{itself}
@@ -19,11 +19,6 @@ use Rattle.pages.specs.declared.pen.Pen as Code
 unfoldable pub shown : F.Form → List (Item ℕ) → List ℕ
 shown F.the-variants.Plain is = fill itself (chars is)
 shown F.the-variants.Html is = fill itself (items-html escape is)
-
--- the machine after operations
-unfoldable pub after : Machine → Ops → Machine
-after m [] = m
-after m (o ∷ os) = after (step m o .1) os
 
 abbrev pub machine : Code.Pen → Machine
 machine p = machine-in (p .state)

@@ -5,10 +5,6 @@ use Rattle.fields.proofs.Encoded.{value-here}
 use Rattle.parts.specs.Walk.{part, span, here, rest, walk, fold}
 use Rattle.parts.proofs.Loops.{walk-step, fold-step}
 
-pub length-field : (t : ℕ) (v : List ℕ) → length (field t v) ≡ 3 + length v
-unfolding field
-length-field t v = omega arith
-
 -- the value of a field behind some bytes
 pub part-here : (a : List ℕ) (t : ℕ) (v b : List ℕ) → part (a ++ (field t v ++ b)) (length a + 3) (length a + 3 + length v) ≡ v
 unfolding part

@@ -13,7 +13,8 @@ use Rattle.styles.specs.StylesIn.{styles-in}
 use Rattle.styles.proofs.Sound.{good-styles}
 use Rattle.parts.specs.Walk.{fold}
 use Rattle.parts.proofs.Loops.{fold-nil}
-use Rattle.parts.proofs.OfFields.{length-field, part-here, fold-field}
+use Rattle.rules.proofs.SoundFields.{length-field}
+use Rattle.parts.proofs.OfFields.{part-here, fold-field}
 use Rattle.rigid.specs.RigidIn.{wide, by-parts, text-in, chars-in, styled-in, run-in, with-run, anchor-in, by-tag, rigid-in}
 
 -- ---- a text

@@ -41,4 +41,5 @@ pub mod SameWords
 pub mod SoundFields
 pub mod ItemCosts
 pub mod PageLengths
+pub mod TwoWidths
 pub mod Unique

@@ -2,8 +2,9 @@
 use mathlib.Core.Path.{_≡_}
 use mathlib.Core.List.{List, [], _∷_, _++_}
 use mathlib.Core.Bool.{Bool, true, false, _&&_, _||_, not}
-use Prim.Native.Nat.{ℕ}
+use Prim.Native.Nat.{ℕ, _*_, _≤_, _<_}
 use lib.Dec.{eqb}
+use Rattle.rules.specs.Limits.{plain-per-byte}
 use Rattle.rules.specs.Bytes.{if_then_else_, newline}
 use Rattle.rules.specs.Result.{Result, refused, accepted, _>>=_}
 use Rattle.rules.specs.Walk.{Fields, end, bytes, inside, content, check}
@@ -81,3 +82,22 @@ pub record SaysTheSame (s t : List ℕ) : Type 0 where
   pub same-items : visible of-t ≡ visible of-s
   pub same-marks : marks of-t ≡ marks of-s
   pub same-words : words (fill itself (chars of-t)) ≡ words (texts (file-fields s))
+
+-- t and t′ are left of the file s by layout at two widths, and `page` and `page′` are their plain pages
+pub record TwoWidths (s t t′ page page′ : List ℕ) : Type 0 where
+  pub of-t : List (Item ℕ)
+  pub of-t′ : List (Item ℕ)
+  pub items-of-t : page-items t ≡ accepted of-t
+  pub items-of-t′ : page-items t′ ≡ accepted of-t′
+  pub same-items : visible of-t ≡ visible of-t′
+  pub same-marks : marks of-t ≡ marks of-t′
+  pub same-words : words page ≡ words page′
+  pub of-texts : words page ≡ words (texts (file-fields s))
+
+-- ---- how long a plain page is
+
+-- an answer of the plain page's entry to an accepted file of n bytes, where `lent` bytes were lent: a page, or 10, of at most 67 n bytes. So 10 never comes where
+-- 67 n bytes are lent
+abbrev pub Short : (n lent : ℕ) → Result ℕ → Type 0
+Short n lent (accepted m) = m ≤ plain-per-byte * n
+Short n lent (refused k m) = (k ≡ 10) × (lent < m) × (m ≤ plain-per-byte * n)

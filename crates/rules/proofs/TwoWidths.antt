@@ -1,0 +1,86 @@
+-- Request E12 of what the entries answer and leave: layout at two widths, then the plain page.
+use Rattle.rules.proofs.Basics.{_≡_, refl, sym, _∙_, ap, List, Bool, true, false, ℕ, _*_, _≤_, leb, length, take, drop, take-at, leb-false}
+use Rattle.rules.specs.Limits.{plain-per-byte}
+use Rattle.rules.specs.Bytes.{newline}
+use Rattle.rules.specs.Result.{refused, accepted, _>>=_}
+use Rattle.rules.specs.Good.{Bytes}
+use Rattle.rules.specs.Lines.{Item, items}
+use Rattle.rules.specs.Plain.{chars, plain, fill}
+use Rattle.rules.specs.Answers.{itself, tree, check-answer, layout-outcome, written, left-page, plain-text, plain-outcome}
+use Rattle.rules.specs.SameWords.{words, visible, marks, texts, file-fields, without-7, page-items, SaysTheSame, TwoWidths, Short}
+use Rattle.rules.proofs.Chains.{no-path, bind-inv}
+use Rattle.rules.proofs.LeftLaid.{Left, left-by-layout}
+use Rattle.rules.proofs.SameWords.{same-at-every-width}
+use Rattle.rules.proofs.PageLengths.{page-most}
+
+-- ---- the words
+
+-- the plain page by its items
+plain-by-items : (t : List ℕ) (is : List (Item ℕ)) → page-items t ≡ accepted is → plain-text t ≡ accepted (fill itself (chars is))
+unfolding page-items plain-text plain _>>=_
+plain-by-items t is e =
+    let (u, f, g) = bind-inv (tree t) (λ t. accepted (items newline t)) is e in
+    let h : items newline u ≡ is = cc in
+    rw f (ap (λ is. accepted (fill itself (chars is))) h)
+
+-- what an accepted answer counts is the page
+printed : (text q r : List ℕ) (m : ℕ) → (accepted m, r) ≡ left-page (accepted text) q → take m r ≡ text
+unfolding left-page written
+printed text q r m e = go (leb (length text) (length q)) e
+  where
+    go : (fits : Bool) → (accepted m, r) ≡ written fits text q → take m r ≡ text
+    go true e =
+        let a : accepted m ≡ accepted (length text) = ap (λ o. o .0) e in
+        let n : m ≡ length text = cc in
+        ap (take m) (ap (λ o. o .1) e) ∙ take-at text (drop (length text) q) m (sym n)
+    go false e = let a : accepted m ≡ refused 10 (length text) = ap (λ o. o .0) e in no-path cc
+
+module _ (s : List ℕ) (bs : Bytes s) (p : check-answer s ≡ accepted 0) where
+  page-words : {t : List ℕ} (S : SaysTheSame s t) (q r : List ℕ) (m : ℕ) → (accepted m, r) ≡ plain-outcome t q → words (take m r) ≡ words (texts (file-fields s))
+  unfolding plain-outcome
+  page-words {t} S q r m e =
+      ap words (printed _ q r m (e ∙ ap (λ x. left-page x q) (plain-by-items t (S .of-t) (S .items-of-t)))) ∙ S .same-words
+
+  -- THE SAME WORDS AT TWO WIDTHS
+  pub two-widths : without-7 (file-fields s) ≡ true → (w w′ : ℕ) (q q′ r r′ : List ℕ) (m m′ : ℕ)
+      → (accepted m, r) ≡ plain-outcome (layout-outcome w s .1) q → (accepted m′, r′) ≡ plain-outcome (layout-outcome w′ s .1) q′
+      → TwoWidths s (layout-outcome w s .1) (layout-outcome w′ s .1) (take m r) (take m′ r′)
+  two-widths h w w′ q q′ r r′ m m′ e e′ =
+      let S = same-at-every-width s bs p h w in
+      let S′ = same-at-every-width s bs p h w′ in
+      let one : S .of-s ≡ S′ .of-s = cc in
+      let W = page-words S q r m e in
+      record {
+        of-t = S .of-t;
+        of-t′ = S′ .of-t;
+        items-of-t = S .items-of-t;
+        items-of-t′ = S′ .items-of-t;
+        same-items = S .same-items ∙ ap visible one ∙ sym (S′ .same-items);
+        same-marks = S .same-marks ∙ ap marks one ∙ sym (S′ .same-marks);
+        same-words = W ∙ sym (page-words S′ q′ r′ m′ e′);
+        of-texts = W;
+      }
+
+-- ---- the length
+
+short-text : (n : ℕ) (text q : List ℕ) → length text ≤ plain-per-byte * n → Short n (length q) (left-page (accepted text) q .0)
+unfolding left-page written
+short-text n text q h = go (leb (length text) (length q)) refl
+  where
+    go : (fits : Bool) → leb (length text) (length q) ≡ fits → Short n (length q) (written fits text q .0)
+    go true e = h
+    go false e = (refl, leb-false (length text) (length q) e, h)
+
+-- WHAT IS LEFT OF AN ACCEPTED FILE HAS A PLAIN PAGE OF AT MOST 67 TIMES THE FILE'S LENGTH
+pub short-page : (w : ℕ) (s q : List ℕ) → Bytes s → check-answer s ≡ accepted 0 → Short (length s) (length q) (plain-outcome (layout-outcome w s .1) q .0)
+unfolding check-answer plain-outcome plain-text _>>=_
+short-page w s q bs p =
+    let (t, e, f) = bind-inv _ _ _ p in
+    let L : Left s t (layout-outcome w s .1) = left-by-layout w s t bs e in
+    let u : List ℕ = layout-outcome w s .1 in
+    rw (L .reads) (short-text (length s) (fill itself (plain newline (L .root))) q (rw (L .same-length) at (page-most u (L .root) (L .are-bytes) (L .reads))))
+
+-- and is bytes
+pub left-bytes : (w : ℕ) (s : List ℕ) → Bytes s → check-answer s ≡ accepted 0 → Bytes (layout-outcome w s .1)
+unfolding check-answer
+left-bytes w s bs p = let (t, e, f) = bind-inv (tree s) _ _ p in left-by-layout w s t bs e .are-bytes
