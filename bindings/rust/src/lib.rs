@@ -32,5 +32,5 @@ mod refusal;
 
 pub use entries::{append_html_body, append_html_document, append_plain_page};
 pub use entries::{check_file, html_body, html_document, layout_file, plain_page};
-pub use limits::{MOST_BYTES, MOST_COLUMNS};
+pub use limits::{MOST_BYTES, MOST_COLUMNS, PLAIN_PER_BYTE};
 pub use refusal::Refusal;
