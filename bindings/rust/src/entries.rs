@@ -120,7 +120,11 @@ pub fn html_document(file: &[u8], page: &mut [u8]) -> Result<usize, Refusal> {
     lend(c::hazomeny_html_document, file, page)
 }
 
-/// Appends the plain page of a file to `page`, which grows as needed, and says how many bytes it added. A refusal leaves `page` as it was.
+/// Appends the plain page of a file to `page`, which grows as needed, and says how many bytes it added. A refusal leaves `page`'s bytes as they
+/// were.
+///
+/// It makes room for as many bytes as the file has, which nearly every page fits in. With [`PLAIN_PER_BYTE`](crate::PLAIN_PER_BYTE) times as
+/// many there already, `page` never has to grow.
 ///
 /// ```
 /// let mut page = b"> ".to_vec();
