@@ -4,8 +4,8 @@
 #include <stdlib.h>
 #include <string.h>
 
-/* A file of more than 60,000 bytes is refused whatever it holds, so that one byte more is enough of it. */
-enum { MOST = 60001 };
+/* A longer file than may be is refused whatever it holds, so that one byte more is enough of it. */
+enum { MOST = HAZOMENY_MOST_BYTES + 1 };
 
 typedef uint64_t (*page_entry)(const uint8_t *file, size_t length, uint8_t *page, size_t room);
 
@@ -20,20 +20,26 @@ static int refused(uint64_t answer) {
     return 1;
 }
 
-/* Measures the page by asking for it with no room, then has it written. */
+/* Room that is enough: for a plain page it is known beforehand, and a document is measured by asking for it with no room. */
+static size_t enough(page_entry entry, const uint8_t *file, size_t length) {
+    if (entry == hazomeny_plain) return HAZOMENY_PLAIN_PER_BYTE * length;
+    return hazomeny_number(entry(file, length, NULL, 0));
+}
+
+static int write_out(const uint8_t *page, size_t length) {
+    int whole = fwrite(page, 1, length, stdout) == length && fflush(stdout) == 0;
+    return whole ? 0 : mistake("cannot write the page");
+}
+
+/* Prints the page of a file that is laid out. */
 static int print(page_entry entry, const uint8_t *file, size_t length) {
-    uint64_t measured = entry(file, length, NULL, 0);
-    size_t room = 0;
-    if (hazomeny_refusal(measured) == 10)
-        room = hazomeny_number(measured);
-    else if (hazomeny_refusal(measured))
-        return refused(measured);
+    size_t room = enough(entry, file, length);
     uint8_t *page = malloc(room + 1);
     if (!page) return mistake("no memory");
-    entry(file, length, page, room);
-    int whole = fwrite(page, 1, room, stdout) == room && fflush(stdout) == 0;
+    uint64_t answer = entry(file, length, page, room);
+    int status = hazomeny_refusal(answer) ? refused(answer) : write_out(page, hazomeny_number(answer));
     free(page);
-    return whole ? 0 : mistake("cannot write the page");
+    return status;
 }
 
 int main(int count, char **words) {

@@ -1,6 +1,6 @@
 #!/usr/bin/env python3
-"""Holds the C header and the Rust crate's C names and limits to the proved entries: the same functions, with the same parameters by name, order and type,
-and the same return type. A linker compares none of this, and two parameters of one type can be swapped without a compiler's word."""
+"""Holds the C header and the Rust crate to the proved library: the same functions, with the same parameters by name, order and type, and the
+same return type; the same limits. A linker compares none of this, and two parameters of one type can be swapped without a compiler's word."""
 
 import pathlib
 import re
@@ -14,7 +14,11 @@ PROVED = (ROOT / "crates" / "hazomeny" / "src" / "lib.rt").read_text()
 HEADER = (ROOT / "include" / "hazomeny.h").read_text()
 RUST = (ROOT / "bindings" / "rust" / "src" / "entries.rs").read_text()
 LIMITS = (ROOT / "bindings" / "rust" / "src" / "limits.rs").read_text()
-PROVED_LIMITS = (ROOT / "crates" / "rules" / "src" / "lib.rt").read_text()
+CODE_LIMITS = (ROOT / "crates" / "rules" / "src" / "lib.rt").read_text()
+RULE_LIMITS = (ROOT / "crates" / "rules" / "specs" / "Limits.antt").read_text()
+
+# The limits that a caller has to know, by their names in the proved code.
+CALLERS_LIMITS = ["MOST_BYTES", "MOST_COLUMNS", "PLAIN_PER_BYTE"]
 
 # What a parameter of a proved entry is in C and in Rust: a slice is a pointer and a length, and a page's length is called its room.
 LENGTHS = {"file": "length", "page": "room"}
@@ -53,17 +57,52 @@ def declared_in_rust(source):
     return [" ".join(each.split()).replace("( ", "(").replace(", )", ")") for each in found]
 
 
-def limits(source):
-    """The constants of a source, by name."""
-    return {name: int(value.replace("_", "")) for name, value in re.findall(r"pub const (\w+): \w+ = ([\d_]+);", source)}
+def numbered(pattern, source):
+    """The numbers that the pattern finds in a source, by their names in the proved code."""
+    return {name.replace("-", "_").upper(): int(number.replace("_", "")) for name, number in re.findall(pattern, source, re.M)}
+
+
+def constants(source):
+    """The constants of a source in Rust or Rattle."""
+    return numbered(r"^pub const (\w+): \w+ = ([\d_]+);", source)
+
+
+def limits_in_c(header):
+    return numbered(r"\bHAZOMENY_(\w+) = (\d+)\b", header)
+
+
+def limits_in_rules(definitions):
+    return numbered(r"^([a-z-]+) = ([\d_]+)$", definitions)
+
+
+class Limits(unittest.TestCase):
+    """What code compares with a limit is proved to be the rule's; a limit that only callers use is held to the rule here alone."""
+
+    def setUp(self):
+        proved = limits_in_rules(RULE_LIMITS)
+        self.right = {name: proved.get(name) for name in CALLERS_LIMITS}
+
+    def test_the_code(self):
+        self.assertEqual(constants(CODE_LIMITS), limits_in_rules(RULE_LIMITS))
+
+    def test_the_header(self):
+        self.assertEqual(limits_in_c(HEADER), self.right)
+
+    def test_the_crate(self):
+        self.assertEqual(constants(LIMITS), self.right)
+
+    def test_mistakes_are_found(self):
+        for found, source, was, wrong in [
+            (limits_in_c, HEADER, "PLAIN_PER_BYTE = 67", "PLAIN_PER_BYTE = 66"),
+            (limits_in_c, HEADER, "HAZOMENY_MOST_COLUMNS = 6553, ", ""),
+            (constants, LIMITS, "PLAIN_PER_BYTE: usize = 67", "PLAIN_PER_BYTE: usize = 68"),
+        ]:
+            with self.subTest(wrong):
+                self.assertIn(was, source)
+                self.assertNotEqual(found(source.replace(was, wrong, 1)), self.right)
 
 
 class Prototypes(unittest.TestCase):
-    def test_the_limits(self):
-        ours, proved = limits(LIMITS), limits(PROVED_LIMITS)
-        self.assertEqual(sorted(ours), ["MOST_BYTES", "MOST_COLUMNS"])
-        self.assertEqual(ours, {name: proved.get(name) for name in ours})
-
     def test_there_are_five(self):
         self.assertEqual([name for name, _, _ in entries()], [f"hazomeny_{each}" for each in ("check", "layout", "plain", "html_body", "html_document")])
 

@@ -1,6 +1,6 @@
 //! The five entries on slices, and the three pages appended to a vector.
 
-use crate::Refusal;
+use crate::{Refusal, MOST_BYTES};
 
 /// The C names of the proved library; `include/hazomeny.h` says what each does.
 mod c {
@@ -72,6 +72,24 @@ pub fn layout_file(file: &mut [u8], width: usize) -> Result<usize, Refusal> {
 /// assert_eq!(hazomeny::plain_page(file, &mut page), Ok(2));
 /// assert_eq!(&page, b"ok..");
 /// ```
+///
+/// A slice of [`PLAIN_PER_BYTE`](crate::PLAIN_PER_BYTE) times the file's length is long enough for every file: that is proved, and with it
+/// refusal 10 never comes.
+///
+/// ```
+/// use hazomeny::PLAIN_PER_BYTE;
+///
+/// // two blocks, each of which indents a text of 20 lines
+/// let field = |tag: u8, value: &[u8]| [&[tag, 0, value.len() as u8], value].concat();
+/// let text = field(1, &field(17, &b"a\n".repeat(20)));
+/// let file = field(3, &field(8, &field(3, &field(8, &text))));
+///
+/// let mut page = vec![0; PLAIN_PER_BYTE * file.len()];
+/// let length = hazomeny::plain_page(&file, &mut page)?;
+/// assert_eq!(page[..length], *b"    a\n".repeat(20));
+/// assert!(length > file.len());
+/// # Ok::<(), hazomeny::Refusal>(())
+/// ```
 pub fn plain_page(file: &[u8], page: &mut [u8]) -> Result<usize, Refusal> {
     lend(c::hazomeny_plain, file, page)
 }
@@ -102,7 +120,11 @@ pub fn html_document(file: &[u8], page: &mut [u8]) -> Result<usize, Refusal> {
     lend(c::hazomeny_html_document, file, page)
 }
 
-/// Appends the plain page of a file to `page`, which grows as needed, and says how many bytes it added. A refusal leaves `page` as it was.
+/// Appends the plain page of a file to `page`, which grows as needed, and says how many bytes it added. A refusal leaves `page`'s bytes as they
+/// were.
+///
+/// It makes room for as many bytes as the file has, which nearly every page fits in. With [`PLAIN_PER_BYTE`](crate::PLAIN_PER_BYTE) times as
+/// many there already, `page` never has to grow.
 ///
 /// ```
 /// let mut page = b"> ".to_vec();
@@ -110,7 +132,9 @@ pub fn html_document(file: &[u8], page: &mut [u8]) -> Result<usize, Refusal> {
 /// assert_eq!(page, b"> ok");
 /// ```
 pub fn append_plain_page(file: &[u8], page: &mut Vec<u8>) -> Result<usize, Refusal> {
-    append(plain_page, file, page)
+    // nearly every page is shorter than its file, and with so much room it need not be measured first
+    page.reserve(file.len().min(MOST_BYTES));
+    append(c::hazomeny_plain, file, page)
 }
 
 /// Appends the HTML body of a file; otherwise as [`append_plain_page`].
@@ -122,7 +146,7 @@ pub fn append_plain_page(file: &[u8], page: &mut Vec<u8>) -> Result<usize, Refus
 /// # Ok::<(), hazomeny::Refusal>(())
 /// ```
 pub fn append_html_body(file: &[u8], page: &mut Vec<u8>) -> Result<usize, Refusal> {
-    append(html_body, file, page)
+    append(c::hazomeny_html_body, file, page)
 }
 
 /// Appends the HTML document of a file; otherwise as [`append_plain_page`].
@@ -135,7 +159,7 @@ pub fn append_html_body(file: &[u8], page: &mut Vec<u8>) -> Result<usize, Refusa
 /// # Ok::<(), hazomeny::Refusal>(())
 /// ```
 pub fn append_html_document(file: &[u8], page: &mut Vec<u8>) -> Result<usize, Refusal> {
-    append(html_document, file, page)
+    append(c::hazomeny_html_document, file, page)
 }
 
 type PageEntry = unsafe extern "C" fn(*const u8, usize, *mut u8, usize) -> u64;
@@ -146,21 +170,25 @@ fn lend(entry: PageEntry, file: &[u8], page: &mut [u8]) -> Result<usize, Refusal
     answer(unsafe { entry(file.as_ptr(), file.len(), page.as_mut_ptr(), page.len()) })
 }
 
-/// Tries the room that the vector has already, and makes it longer only where that is too little.
-fn append(
-    entry: fn(&[u8], &mut [u8]) -> Result<usize, Refusal>,
-    file: &[u8],
-    page: &mut Vec<u8>,
-) -> Result<usize, Refusal> {
-    let start = page.len();
-    // What is lent is cleared first, so of a large vector's room lend only as much as nearly every page of such a file needs.
-    let room = (page.capacity() - start).min(8 * file.len() + 2_048);
-    page.resize(start + room, 0);
-    let mut said = entry(file, &mut page[start..]);
-    if let Some(needed) = said.err().and_then(|refusal| refusal.bytes_needed()) {
-        page.resize(start + needed, 0);
-        said = entry(file, &mut page[start..]);
+/// Tries the room that the vector has already, and makes more only where that is too little. The room is lent as it is, since clearing it
+/// would cost more than a small page in a large vector.
+fn append(entry: PageEntry, file: &[u8], page: &mut Vec<u8>) -> Result<usize, Refusal> {
+    let said = append_to_spare(entry, file, page);
+    match said.err().and_then(|refusal| refusal.bytes_needed()) {
+        Some(needed) => {
+            page.reserve(needed);
+            append_to_spare(entry, file, page)
+        }
+        None => said,
     }
-    page.truncate(start + said.unwrap_or(0));
-    said
+}
+
+fn append_to_spare(entry: PageEntry, file: &[u8], page: &mut Vec<u8>) -> Result<usize, Refusal> {
+    let spare = page.spare_capacity_mut();
+    let (start, room) = (spare.as_mut_ptr().cast(), spare.len());
+    // SAFETY: as in `lend`. What is lent is not initialised and need not be: an entry only writes to a page.
+    let added = answer(unsafe { entry(file.as_ptr(), file.len(), start, room) })?;
+    // SAFETY: an accepted page is at most `room` bytes long, and all its bytes are written.
+    unsafe { page.set_len(page.len() + added) };
+    Ok(added)
 }

@@ -20,6 +20,9 @@
 //! # Ok::<(), hazomeny::Refusal>(())
 //! ```
 //!
+//! A plain page has at most [`PLAIN_PER_BYTE`] bytes for each byte of its file, so that a slice of that length is never too short for
+//! [`plain_page`].
+//!
 //! The code behind these functions is a static library, `libhazomeny.a`, for x86-64 Linux. It uses no memory but the stack (under
 //! 16 KiB of it), keeps no state, and may be called from any number of threads.
 
@@ -32,5 +35,5 @@ mod refusal;
 
 pub use entries::{append_html_body, append_html_document, append_plain_page};
 pub use entries::{check_file, html_body, html_document, layout_file, plain_page};
-pub use limits::{MOST_BYTES, MOST_COLUMNS};
+pub use limits::{MOST_BYTES, MOST_COLUMNS, PLAIN_PER_BYTE};
 pub use refusal::Refusal;

@@ -178,10 +178,27 @@ fn a_vector_grows_behind_what_was_there() {
     }
 }
 
+/// A text of so many lines, indented so far that its page is much longer than the file.
+fn indented_lines(count: usize) -> Vec<u8> {
+    nested(3, 32, text(&b"a\n".repeat(count)))
+}
+
+#[test]
+fn so_much_for_each_byte_is_enough_for_a_plain_page() {
+    let line = [&b" ".repeat(64)[..], b"a\n"].concat();
+    for count in [1, 500, 29_000] {
+        let file = indented_lines(count);
+        let mut page = vec![LENT; PLAIN_PER_BYTE * file.len()];
+        let length = plain_page(&file, &mut page).expect("the room is enough");
+        assert_eq!(page[..length], line.repeat(count));
+        assert_eq!(appended(append_plain_page, &file), line.repeat(count));
+    }
+    assert_eq!(plain_page(b"", &mut []), Ok(0));
+}
+
 #[test]
 fn a_vector_with_room_keeps_its_place() {
-    // indented so far that the page is much longer than its file
-    let lines = nested(3, 32, text(&b"a\n".repeat(500)));
+    let lines = indented_lines(500);
     assert!(appended(append_plain_page, &lines).len() > 20 * lines.len());
     for (_, append) in PAGES {
         for file in [call(), lines.clone()] {

@@ -13,6 +13,10 @@ most-blocks = 32
 abbrev pub most-columns : ℕ
 most-columns = 6_553
 
+-- the bytes of a plain page, for each byte of its file
+abbrev pub plain-per-byte : ℕ
+plain-per-byte = 67
+
 -- the cap of widths, in tenths of a column
 abbrev pub most-tenths : ℕ
 most-tenths = 65_535

@@ -10,6 +10,9 @@ pub const MOST_BLOCKS: usize = 32;
 // The widest page, in columns.
 pub const MOST_COLUMNS: usize = 6553;
 
+// The most bytes of a plain page for each byte of its file.
+pub const PLAIN_PER_BYTE: usize = 67;
+
 // The cap of widths, in tenths of a column.
 pub const MOST_TENTHS: u16 = 65535;
 
