@@ -1,5 +1,6 @@
 -- The page of a whole file: what is refused, how long it is, and what is written.
-use Rattle.rules.proofs.Basics.{_≡_, refl, sym, ap, subst, _∙_, List, [], _++_, append-nil, append-assoc, false, ℕ, _<_, _≤_, arith, leb, length, le-leb, lt-leb}
+use Rattle.rules.proofs.Basics.{_≡_, refl, sym, ap, subst, _∙_, List, [], _++_, append-nil, append-assoc, true, false, ℕ, _/_, _<_, _≤_, arith, leb, length, leb-true, le-leb, lt-leb}
+use Rattle.rules.specs.Limits.{plain-per-byte}
 use Rattle.rules.specs.Bytes.{newline}
 use Rattle.rules.specs.declared.Refusal.{Refusal}
 use Rattle.rules.specs.declared.Answer.{Answer}
@@ -13,13 +14,15 @@ use Rattle.rules.specs.Plain.{plain, fill}
 use Rattle.rules.specs.Html.{escape, makes, items-html, opening, closing, before-body, after-body, body, document}
 use Rattle.rules.specs.Alike.{plain-page, html-body, html-document}
 use Rattle.rules.specs.Answers.{itself, tree, check-answer, written, left-page, plain-text, plain-outcome, body-text, body-outcome, document-text, document-outcome}
+use Rattle.rules.proofs.Chains.{no-path}
+use Rattle.rules.proofs.PageLengths.{page-most}
 use Rattle.verify.proofs.Verdicts.{RefusedSo, refused-so, AcceptedAs, accepted-as}
 use Rattle.writing.specs.Written.{last, Written}
 use Rattle.writing.proofs.Laws as writing
 use Rattle.writing.proofs.Laws.{how-long, fits, no-page}
 use Rattle.pages.specs.OpsIn.{fragment-in}
 use Rattle.pages.specs.Ran.{shown, machine, form, Rendered}
-use Rattle.pages.specs.Kinds.{form-of, head, foot, page-in, page-of, page-outcome}
+use Rattle.pages.specs.Kinds.{form-of, head, foot, page-in, page-of, surely-fits, page-outcome}
 use Rattle.pages.specs.declared.frame.Kind as K
 use Rattle.pages.specs.declared.frame.Kind.{Kind}
 use Rattle.pages.specs.declared.pen.Pen.{Pen}
@@ -66,6 +69,14 @@ page-last K.the-variants.Plain t G b = omega (arith, page-short plain-page t G b
 page-last K.the-variants.Body t G b = omega (arith, page-short html-body t G b)
 page-last K.the-variants.Document t G b = omega (arith, page-short html-document t G b)
 
+-- a page that surely fits, fits
+fits-surely : (k : Kind) (s : List ℕ) (t : Frag ℕ) (room : ℕ) → Bytes s → tree s ≡ accepted t → surely-fits k (length s) room ≡ true → length (page-of k t) ≤ room
+unfolding surely-fits page-of
+fits-surely K.the-variants.Plain s t room b e h =
+    omega (arith, page-most s t b e, leb-true (length s) (room / plain-per-byte) h)
+fits-surely K.the-variants.Body s t room b e h = no-path cc
+fits-surely K.the-variants.Document s t room b e h = no-path cc
+
 -- what a kind answers, by its page
 outcome-of : (k : Kind) (s page : List ℕ) → left-page (tree s >>= (λ t. accepted (page-of k t))) page ≡ page-outcome k s page
 unfolding page-outcome page-of plain-outcome plain-text body-outcome body-text document-outcome document-text _>>=_
@@ -83,33 +94,40 @@ module _ (k : Kind) (s page : List ℕ) where
       ap (λ r. (r, page)) (R .says) ∙ sym (ap (λ x. left-page (x >>= (λ t. accepted (page-of k t))) page) (R .no-tree)) ∙ outcome-of k s page
 
   -- an accepted file's text, by its bytes, and its length
-  module _ (b : Bytes s) (a : Answer) {n : ℕ} (q : a ≡ Done n) (e : said a ≡ check-answer s) {needed : ℕ} {x : List ℕ} (m : Written [] 0 (page-in k s) x needed) where
-    accepted-text : (A : AcceptedAs s) → page-in k s ≡ page-of k (A .root)
-    accepted-text A = ap (page-in k) (sym (A .read .encodes)) ∙ page-by-bytes k (A .root) (A .read .good)
+  module _ (b : Bytes s) (a : Answer) {n : ℕ} (q : a ≡ Done n) (e : said a ≡ check-answer s) where
+    abbrev A : AcceptedAs s
+    A = accepted-as s a b q e
 
-    accepted-outcome : (A : AcceptedAs s) → page-outcome k s page ≡ written (leb (length (page-in k s)) (length page)) (page-in k s) page
+    accepted-text : page-in k s ≡ page-of k (A .root)
+    accepted-text = ap (page-in k) (sym (A .read .encodes)) ∙ page-by-bytes k (A .root) (A .read .good)
+
+    accepted-outcome : page-outcome k s page ≡ written (leb (length (page-in k s)) (length page)) (page-in k s) page
     unfolding left-page _>>=_
-    accepted-outcome A = sym (outcome-of k s page) ∙ rw (A .its-tree, accepted-text A)
+    accepted-outcome = sym (outcome-of k s page) ∙ rw (A .its-tree, accepted-text)
 
-    text-short : (A : AcceptedAs s) → length (page-in k s) ≤ last
-    text-short A = rw (accepted-text A) (page-last k (A .root) (A .read .good) (subst Bytes (sym (A .read .encodes)) b))
+    text-short : length (page-in k s) ≤ last
+    text-short = rw accepted-text (page-last k (A .root) (A .read .good) (subst Bytes (sym (A .read .encodes)) b))
+
+    -- a page that fits is written
+    page-fits : {r : ℕ} {page′ : List ℕ} → length (page-in k s) ≤ length page → Written page 0 (page-in k s) page′ r → (accepted r, page′) ≡ page-outcome k s page
+    unfolding written
+    page-fits h w = rw (accepted-outcome, le-leb (length (page-in k s)) (length page) h, how-long w text-short, fits w text-short h) refl
+
+    -- one that fits whatever the file is, without being measured
+    pub page-written-at-once : {r : ℕ} {page′ : List ℕ} → surely-fits k (length s) (length page) ≡ true → Written page 0 (page-in k s) page′ r → (accepted r, page′) ≡ page-outcome k s page
+    page-written-at-once h w = page-fits (rw accepted-text (fits-surely k s (A .root) (length page) b (A .its-tree) h)) w
 
     -- measuring lends no page, and leaves none in front of the page itself
-    pub page-too-short : length (x ++ page) < needed → (refused 10 needed, x ++ page) ≡ page-outcome k s page
-    unfolding written
-    page-too-short h =
-        let A : AcceptedAs s = accepted-as s a b q e in
-        let l : needed ≡ length (page-in k s) = how-long m (text-short A) in
-        let none : x ++ page ≡ page = ap (λ (x : List ℕ). x ++ page) (no-page m) in
-        let h′ : length page < length (page-in k s) = omega (arith, l, ap length none) in
-        rw (accepted-outcome A, lt-leb (length (page-in k s)) (length page) h′, l, none) refl
+    module _ {needed : ℕ} {x : List ℕ} (m : Written [] 0 (page-in k s) x needed) where
+      pub page-too-short : length (x ++ page) < needed → (refused 10 needed, x ++ page) ≡ page-outcome k s page
+      unfolding written
+      page-too-short h =
+          let l : needed ≡ length (page-in k s) = how-long m text-short in
+          let none : x ++ page ≡ page = ap (λ (x : List ℕ). x ++ page) (no-page m) in
+          let h′ : length page < length (page-in k s) = omega (arith, l, ap length none) in
+          rw (accepted-outcome, lt-leb (length (page-in k s)) (length page) h′, l, none) refl
 
-    pub page-written : {r : ℕ} {page′ : List ℕ} → needed ≤ length (x ++ page) → Written (x ++ page) 0 (page-in k s) page′ r
-        → (accepted r, page′) ≡ page-outcome k s page
-    unfolding written
-    page-written h w =
-        let A : AcceptedAs s = accepted-as s a b q e in
-        let l : needed ≡ length (page-in k s) = how-long m (text-short A) in
-        let none : x ++ page ≡ page = ap (λ (x : List ℕ). x ++ page) (no-page m) in
-        let h′ : length (page-in k s) ≤ length page = omega (arith, l, ap length none) in
-        rw (accepted-outcome A, le-leb (length (page-in k s)) (length page) h′, how-long w (text-short A), fits (rw none at w) (text-short A) h′) refl
+      pub page-written : {r : ℕ} {page′ : List ℕ} → needed ≤ length (x ++ page) → Written (x ++ page) 0 (page-in k s) page′ r → (accepted r, page′) ≡ page-outcome k s page
+      page-written h w =
+          let none : x ++ page ≡ page = ap (λ (x : List ℕ). x ++ page) (no-page m) in
+          page-fits (omega (arith, how-long m text-short, ap length none)) (rw none at w)

@@ -1,4 +1,4 @@
-// The page of a whole file: checked, measured, then written.
+// The page of a whole file: checked, measured where it might not fit, then written.
 use crate::frame::Kind;
 use crate::frame::form_of;
 use crate::frame::put_foot;
@@ -9,12 +9,13 @@ use crate::walk::render_fragment;
 use lines::start;
 use rules::Answer;
 use rules::MOST_BLOCKS;
+use rules::PLAIN_PER_BYTE;
 use rules::Refusal;
 use verify::walk::check;
 ghost use mathlib.Core.Path.{_≡_};
 ghost use Rattle.rules.specs.Result.{said};
 ghost use Rattle.writing.specs.Written.{Written};
-ghost use Rattle.pages.specs.Kinds.{page-in, page-outcome};
+ghost use Rattle.pages.specs.Kinds.{page-in, surely-fits, page-outcome};
 
 // Writes the page as far as it goes, and answers how many bytes all of it needs.
 fn render(kind: Kind, file: &[u8], page: &mut [u8]) -> usize
@@ -29,6 +30,17 @@ fn render(kind: Kind, file: &[u8], page: &mut [u8]) -> usize
     put_foot(page, p.at, kind)
 }
 
+// Whether the page of a file of n bytes fits without being measured: a plain page has at most PLAIN_PER_BYTE times as many.
+fn surely_fits(kind: Kind, n: usize, room: usize) -> bool
+    ensures { λ r. ⌜ r ≡ surely-fits kind n room ⌝ }
+{
+    match kind {
+        Kind::Plain => n <= room / PLAIN_PER_BYTE,
+        Kind::Body => false,
+        Kind::Document => false,
+    }
+}
+
 // Answers the page's length, and writes it from the page's start; a refusal changes no byte.
 pub fn render_page(kind: Kind, file: &[u8], page: &mut [u8]) -> Answer
     ensures { λ r. ⌜ (said r, now (page .exit)) ≡ page-outcome kind (now (file .entry)) (now (page .entry)) ⌝ }
@@ -37,6 +49,9 @@ pub fn render_page(kind: Kind, file: &[u8], page: &mut [u8]) -> Answer
     let Answer::Done(n) = a else {
         return a;
     };
+    if surely_fits(kind, file.len(), page.len()) {
+        return Answer::Done(render(kind, file, page));
+    }
     let needed = render(kind, file, &mut page[..0]);
     if page.len() < needed {
         return Answer::Refused(Refusal::PageTooShort(needed));

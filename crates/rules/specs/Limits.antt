@@ -31,7 +31,3 @@ first-style = 32
 
 abbrev pub last-style : ℕ
 last-style = 38
-
--- a plain page, in bytes for each byte of its file: before a byte stand at most a break, a newline and two spaces for each block around it
-abbrev pub plain-per-byte : ℕ
-plain-per-byte = 67

@@ -1,0 +1,9 @@
+-- `pages::whole::surely_fits` meets its contract: by the kind.
+use Rattle.rules.proofs.Basics.{needs}
+use Rattle.pages.specs.Kinds.{surely-fits}
+use Rattle.pages.proofs.whole.surely_fits.Statement.{statement}
+use Rattle.pages.proofs.whole.surely_fits.Tie as tie
+
+pub surely-fits-spec : {M : Type 1} → statement M
+surely-fits-spec = tie.close (tie.spec (λ c. search needs) (λ c. search needs) (λ c. search needs) (λ c. unfold surely-fits in rw (c .enum-told .given .1))
+    (λ c. unfold surely-fits in rw (c .enum-told2 .given .1)) (λ c. unfold surely-fits in rw (c .enum-told3 .given .1)))
