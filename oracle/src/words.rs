@@ -85,7 +85,7 @@ impl Unlike {
     }
 }
 
-/// Tries random accepted files and then those with the longest pages; the same seed tries the same again.
+/// Tries random accepted files and then those made for long pages; the same seed tries the same again.
 pub fn run(subject: &mut dyn Subject, seed: u64, extent: Extent) -> Result<Tally, Stop<Unlike>> {
     let mut tally = Tally::default();
     let (mut waiting, mut bytes) = (Vec::new(), 0);

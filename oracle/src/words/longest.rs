@@ -1,4 +1,4 @@
-//! Files whose plain pages are the longest for their length: blocks as deep as they may be, with lines of one letter in the innermost.
+//! Files made for plain pages that are long beside them: blocks as deep as they may be, with lines of one letter in the innermost.
 
 use crate::field::{self, Field};
 use crate::tags::*;
