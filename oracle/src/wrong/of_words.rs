@@ -31,13 +31,14 @@ fn text_blotted(request: &Request) -> Outcome {
     said
 }
 
-/// Shows other fields than those of the file, if it is this page that is asked for.
+/// Shows other fields than those of the file, if it is this page that is asked for. A file that would grow
+/// too long is shown as it is: to refuse it would be another fault.
 fn shows(request: &Request, page: Operation, by: fn(&Field) -> Option<Field>) -> Outcome {
-    if request.operation != page {
+    let shown = field::encode(&replaced(&field::parse(&request.file), by));
+    if request.operation != page || shown.len() > LONGEST_FILE {
         return answer(request);
     }
-    let shown = replaced(&field::parse(&request.file), by);
-    page_outcome(&rendered(page, &field::encode(&shown)), request.room)
+    page_outcome(&rendered(page, &shown), request.room)
 }
 
 fn has_broken_block(file: &[u8]) -> bool {
