@@ -209,7 +209,8 @@ fn mask(file: &[u8], width: u16) -> Held {
     })
 }
 
-/// Without its 7s a file shows the words of its texts, as it stands and at two widths, and its bodies have the same tags between them.
+/// Without its 7s a file shows the words of its texts, as it stands and at two
+/// widths, and its bodies have the same tags between them.
 fn same_words(file: &[u8], width: u16) -> Held {
     let mut fields = field::parse(file);
     bare::drop_7s(&mut fields);

@@ -128,7 +128,8 @@ fn wrong_subjects(seed: u64) -> Result<Vec<String>, String> {
     wrong::all().into_iter().map(tried).collect()
 }
 
-/// A run of a wrong subject has to end in a difference; `told` has the length of its file, which has to be small, and its words.
+/// A run of a wrong subject has to end in a difference; `told` has the length
+/// of its file, which has to be small, and its words.
 fn caught<T, D>(
     wrong: &Wrong,
     ran: Result<T, Stop<D>>,
