@@ -17,6 +17,7 @@ use crate::selftest;
 use crate::subject::{Child, Oneself, Subject};
 use crate::tags::{FULL_OPACITY, LEAST_OPACITY};
 use crate::wire;
+use crate::words;
 use std::fs;
 use std::io::{self, Read, Write};
 use std::num::NonZeroUsize;
@@ -48,6 +49,11 @@ oracle COMMAND: the Rust original's answers for fragment files
   masks --subject WHAT [--seed S] [--files N | --seconds N]
                                accepted files and masks of them get the same
                                answers, and one list of bytes gives their pages
+  words --subject WHAT [--seed S] [--files N | --seconds N]
+                               accepted files without a 7 show the words of
+                               their texts, and the same tags, at two widths
+                               and not laid out; with 7s too a plain page has
+                               at most 67 times the bytes of its file
   numbers --subject WHAT [--every N] [--from K]
                                compares every opacity, size and weight in HTML
                                bodies; of the opacities from 1/1024 to 1 only
@@ -79,6 +85,10 @@ pub fn run(words: &[String]) -> Result<ExitCode, Mistake> {
         "masks" => {
             let allowed = ["subject", "seed", "files", "seconds"];
             run_masks(&Options::new(rest, &allowed)?)
+        }
+        "words" => {
+            let allowed = ["subject", "seed", "files", "seconds"];
+            run_words(&Options::new(rest, &allowed)?)
         }
         "numbers" => run_numbers(&Options::new(rest, &["subject", "every", "from"])?),
         "selftest" => run_selftest(&Options::new(rest, &["seed", "files"])?),
@@ -283,11 +293,11 @@ fn compare_all(
     extent: Extent,
 ) -> Result<(), Stop> {
     let short = compare::run_short(subject, parts)?;
-    println!("short files: {}", words(&short));
+    println!("short files: {}", tally_words(&short));
     let start = Instant::now();
     let random = compare::run(subject, parts, seed, extent)?;
     let rate = per_minute(random.files, start);
-    println!("random files: {}; {rate}", words(&random));
+    println!("random files: {}; {rate}", tally_words(&random));
     Ok(())
 }
 
@@ -296,7 +306,7 @@ fn per_minute(files: u64, start: Instant) -> String {
     format!("{rate:.0} files per minute")
 }
 
-fn words(tally: &Tally) -> String {
+fn tally_words(tally: &Tally) -> String {
     let (files, accepted, requests) = (tally.files, tally.accepted, tally.requests);
     format!("{files}, of them accepted {accepted}, requests {requests}")
 }
@@ -315,6 +325,23 @@ fn run_masks(options: &Options) -> Result<ExitCode, Mistake> {
             Ok(ExitCode::SUCCESS)
         }
         Err(stop) => stopped(stop, Unlike::words),
+    }
+}
+
+fn run_words(options: &Options) -> Result<ExitCode, Mistake> {
+    let [] = options.words()?;
+    let seed = seed(options)?;
+    let extent = extent(options)?;
+    let mut subject = subject(options, &Operation::ALL)?;
+    println!("seed {seed}");
+    let start = Instant::now();
+    match words::run(&mut *subject, seed, extent) {
+        Ok(tally) => {
+            let rate = per_minute(tally.files, start);
+            println!("the same words: {}; {rate}", tally.words());
+            Ok(ExitCode::SUCCESS)
+        }
+        Err(stop) => stopped(stop, words::Unlike::words),
     }
 }
 

@@ -9,7 +9,7 @@ use crate::generate;
 use crate::hex::hex;
 use crate::random::Random;
 use crate::shrink::shrink;
-use crate::subject::{Said, Subject};
+use crate::subject::{self, Said, Subject};
 use crate::tree;
 use crate::wire;
 
@@ -225,11 +225,7 @@ pub fn first_difference(
     cases: &[Case],
 ) -> Result<Option<(usize, Said)>, String> {
     let requests: Vec<Request> = cases.iter().map(|case| case.request.clone()).collect();
-    let said = subject.answer(&requests)?;
-    if said.len() != cases.len() {
-        let (few, many) = (said.len(), cases.len());
-        return Err(format!("{few} answers to {many} requests"));
-    }
+    let said = subject::ask(subject, &requests)?;
     let differs = |(index, said): &(usize, Said)| said.as_ref() != Ok(&cases[*index].right);
     Ok(said.into_iter().enumerate().find(differs))
 }

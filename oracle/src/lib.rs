@@ -1,6 +1,8 @@
 //! The judge: wraps the Rust original unchanged and says what is right for any fragment file.
 
 pub mod answers;
+pub mod bare;
+pub mod body;
 pub mod check;
 pub mod commands;
 pub mod compare;
@@ -28,6 +30,7 @@ pub mod subject;
 pub mod tags;
 pub mod tree;
 pub mod wire;
+pub mod words;
 pub mod wrong;
 
 /// The original, as `build.rs` brought it in.

@@ -12,7 +12,7 @@ use crate::generate;
 use crate::hex::hex;
 use crate::random::Random;
 use crate::shrink::shrink;
-use crate::subject::{Said, Subject};
+use crate::subject::{self, Said, Subject};
 use crate::tags::LARGEST_WIDTH;
 use crate::tree;
 use crate::wire;
@@ -156,11 +156,7 @@ fn ask(
 ) -> Result<(), Stop<Unlike>> {
     let groups = files.iter().flat_map(|(_, groups)| groups);
     let requests: Vec<Request> = groups.flat_map(|g| g.requests.iter().cloned()).collect();
-    let said = subject.answer(&requests).map_err(Stop::CannotAsk)?;
-    if said.len() != requests.len() {
-        let (few, many) = (said.len(), requests.len());
-        return Err(Stop::CannotAsk(format!("{few} answers to {many} requests")));
-    }
+    let said = subject::ask(subject, &requests).map_err(Stop::CannotAsk)?;
     let mut said = &said[..];
     for (layout, groups) in files {
         for group in groups {

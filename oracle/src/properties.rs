@@ -1,10 +1,13 @@
 //! What has to hold of the judge itself, for accepted files and for any bytes.
 
 use crate::answers::{answer, page_outcome, rendered, Answer, Operation, Outcome, Request, LENT};
+use crate::bare;
+use crate::body;
 use crate::check::check;
 use crate::field::{self, Field};
 use crate::tags::*;
 use crate::tree;
+use crate::words::MOST_TIMES;
 
 /// Holds or says what is wrong.
 pub type Held = Result<(), String>;
@@ -13,7 +16,7 @@ pub type Held = Result<(), String>;
 pub type Property = (&'static str, fn(&[u8], u16) -> Held);
 
 /// Of accepted files.
-pub const OF_ACCEPTED: [Property; 8] = [
+pub const OF_ACCEPTED: [Property; 10] = [
     ("generated files are accepted", accepted),
     ("decoding and encoding give the file back", there_and_back),
     ("layout only turns 4s into 3s", layout_changes_4_to_3),
@@ -22,6 +25,8 @@ pub const OF_ACCEPTED: [Property; 8] = [
     ("the document holds the body", document_holds_body),
     ("a page is refused by 10 just when it does not fit", rooms),
     ("a mask has the same layout and the same lines", mask),
+    ("the words are the same at every width", same_words),
+    ("a plain page is not too long for its file", not_too_long),
 ];
 
 /// Of any bytes.
@@ -103,17 +108,8 @@ fn body_is_plain(file: &[u8], width: u16) -> Held {
 
 /// The text of a body as a browser would have it: the newline after `<pre>` does not count.
 fn without_tags(body: &[u8]) -> Vec<u8> {
-    let mut text = Vec::new();
-    let (mut in_tag, mut in_quotes) = (false, false);
-    for &byte in body {
-        match byte {
-            b'"' if in_tag => in_quotes = !in_quotes,
-            b'>' if in_tag && !in_quotes => in_tag = false,
-            b'<' if !in_tag => in_tag = true,
-            _ if in_tag => {}
-            _ => text.push(byte),
-        }
-    }
+    let outside = body::marked(body).filter(|(_, in_tag)| !in_tag);
+    let text: Vec<u8> = outside.map(|(byte, _)| byte).collect();
     let text = replaced(&text[1..], b"&lt;", b"<");
     replaced(&text, b"&amp;", b"&")
 }
@@ -211,6 +207,35 @@ fn mask(file: &[u8], width: u16) -> Held {
     ensure(body.len() == mask_body.len(), || {
         "another body length".into()
     })
+}
+
+/// Without its 7s a file shows the words of its texts, as it stands and at two
+/// widths, and its bodies have the same tags between them.
+fn same_words(file: &[u8], width: u16) -> Held {
+    let mut fields = field::parse(file);
+    bare::drop_7s(&mut fields);
+    let file = field::encode(&fields);
+    let (_, wide) = laid_out(&file, width)?;
+    let (_, narrow) = laid_out(&file, width / 2)?;
+    let body = |file| page(Operation::Body, file).map(|body| bare::body(&body));
+    let (words, tags) = (bare::texts(&fields), body(&file)?);
+    for file in [&file, &wide, &narrow] {
+        let plain = page(Operation::Plain, file)?;
+        ensure(bare::page(&plain) == words, || "other words".into())?;
+        ensure(body(file)? == tags, || "other tags".into())?;
+    }
+    Ok(())
+}
+
+fn not_too_long(file: &[u8], width: u16) -> Held {
+    let (_, after) = laid_out(file, width)?;
+    for file in [file, &after] {
+        let length = page(Operation::Plain, file)?.len();
+        ensure(length <= MOST_TIMES * file.len(), || {
+            format!("{length} bytes")
+        })?;
+    }
+    Ok(())
 }
 
 fn same_refusal(file: &[u8], width: u16) -> Held {

@@ -16,7 +16,8 @@ use crate::random::Random;
 use crate::shrink::shrink;
 use crate::subject::Oneself;
 use crate::tags::LEAST_OPACITY;
-use crate::wrong::{self, Misprinter};
+use crate::words;
+use crate::wrong::{self, Misprinter, Wrong};
 use std::num::NonZeroUsize;
 use std::panic::{catch_unwind, AssertUnwindSafe};
 
@@ -57,6 +58,8 @@ pub fn run(seed: u64, files: u64) -> Result<Vec<String>, String> {
     found.extend(wrong_subjects(seed)?);
     found.push(masks_alike(seed, files / 50)?);
     found.extend(wrong_of_masks(seed)?);
+    found.push(same_words(seed, files / 50)?);
+    found.extend(wrong_of_words(seed)?);
     all_numbers()?;
     found.extend(misprints()?);
     Ok(found)
@@ -115,25 +118,31 @@ fn hold(property: fn(&[u8], u16) -> Held, file: &[u8], width: u16) -> Held {
 
 /// Every wrong subject has to be found, with a file as small as said.
 fn wrong_subjects(seed: u64) -> Result<Vec<String>, String> {
-    let mut found = Vec::new();
-    for mut wrong in wrong::all() {
-        let (name, parts, longest) = (wrong.name, wrong.part, wrong.longest);
-        match compare::run(&mut wrong, &parts, seed, Extent::Files(20_000)) {
-            Ok(_) => return Err(format!("not found: {name}")),
-            Err(Stop::CannotAsk(why)) => return Err(format!("{name}: {why}")),
-            Err(Stop::Differs(difference)) => {
-                let length = difference.request.file.len();
-                found.push(small(name, length, longest, &difference.words())?);
-            }
-        }
-    }
-    Ok(found)
+    let tried = |mut wrong: Wrong| {
+        let parts = wrong.part;
+        let ran = compare::run(&mut wrong, &parts, seed, Extent::Files(20_000));
+        caught(&wrong, ran, |difference| {
+            (difference.request.file.len(), difference.words())
+        })
+    };
+    wrong::all().into_iter().map(tried).collect()
 }
 
-fn small(name: &str, length: usize, longest: usize, words: &str) -> Result<String, String> {
-    match length <= longest {
-        true => Ok(format!("found in {length} bytes: {name}")),
-        false => Err(format!("{name}: {length} bytes, over {longest}\n{words}")),
+/// A run of a wrong subject has to end in a difference; `told` has the length
+/// of its file, which has to be small, and its words.
+fn caught<T, D>(
+    wrong: &Wrong,
+    ran: Result<T, Stop<D>>,
+    told: fn(&D) -> (usize, String),
+) -> Result<String, String> {
+    let (name, longest) = (wrong.name, wrong.longest);
+    match ran {
+        Ok(_) => Err(format!("not found: {name}")),
+        Err(Stop::CannotAsk(why)) => Err(format!("{name}: {why}")),
+        Err(Stop::Differs(difference)) => match told(&difference) {
+            (length, _) if length <= longest => Ok(format!("found in {length} bytes: {name}")),
+            (length, words) => Err(format!("{name}: {length} bytes, over {longest}\n{words}")),
+        },
     }
 }
 
@@ -146,21 +155,38 @@ fn masks_alike(seed: u64, files: u64) -> Result<String, String> {
     }
 }
 
+/// So many files are enough for `masks` and `words` to find what is wrong.
+const ENOUGH: Extent = Extent::Files(2_000);
+
 /// `masks` has to find every subject that looks at the texts.
 fn wrong_of_masks(seed: u64) -> Result<Vec<String>, String> {
-    let mut found = Vec::new();
-    for mut wrong in wrong::of_masks() {
-        let (name, longest) = (wrong.name, wrong.longest);
-        match masks::run(&mut wrong, seed, Extent::Files(2_000)) {
-            Ok(_) => return Err(format!("not found: {name}")),
-            Err(Stop::CannotAsk(why)) => return Err(format!("{name}: {why}")),
-            Err(Stop::Differs(unlike)) => {
-                let length = unlike.request.file.len();
-                found.push(small(name, length, longest, &unlike.words())?);
-            }
-        }
+    let tried = |mut wrong: Wrong| {
+        let ran = masks::run(&mut wrong, seed, ENOUGH);
+        caught(&wrong, ran, |unlike| {
+            (unlike.request.file.len(), unlike.words())
+        })
+    };
+    wrong::of_masks().into_iter().map(tried).collect()
+}
+
+/// `words` finds no fault in the judge itself.
+fn same_words(seed: u64, files: u64) -> Result<String, String> {
+    match words::run(&mut Oneself, seed, Extent::Files(files)) {
+        Ok(tally) => Ok(format!("the same words: {}", tally.words())),
+        Err(Stop::CannotAsk(why)) => Err(why),
+        Err(Stop::Differs(unlike)) => Err(unlike.words()),
     }
-    Ok(found)
+}
+
+/// `words` has to find every subject that shows other words at a width, or too long a page.
+fn wrong_of_words(seed: u64) -> Result<Vec<String>, String> {
+    let tried = |mut wrong: Wrong| {
+        let ran = words::run(&mut wrong, seed, ENOUGH);
+        caught(&wrong, ran, |unlike| {
+            (unlike.request.file.len(), unlike.words())
+        })
+    };
+    wrong::of_words().into_iter().map(tried).collect()
 }
 
 /// Of the opacities one in so many: enough for more files than are asked at once.

@@ -23,6 +23,16 @@ pub trait Subject {
     }
 }
 
+/// What a subject says to some requests, which has to be one saying for each.
+pub fn ask(subject: &mut dyn Subject, requests: &[Request]) -> Result<Vec<Said>, String> {
+    let said = subject.answer(requests)?;
+    let (few, many) = (said.len(), requests.len());
+    match few == many {
+        true => Ok(said),
+        false => Err(format!("{few} answers to {many} requests")),
+    }
+}
+
 /// The judge itself.
 pub struct Oneself;
 

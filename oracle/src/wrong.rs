@@ -1,5 +1,7 @@
 //! Subjects that are wrong on purpose: the comparison has to find each fault and make it small.
 
+mod of_words;
+
 use crate::answers::{answer, page_outcome, rendered, Answer, Operation, Outcome, Request, LENT};
 use crate::field::{self, Field};
 use crate::numbers::Number;
@@ -30,8 +32,10 @@ impl Subject for Wrong {
 type Says = fn(&Request) -> Outcome;
 
 /// What is wrong, in which operation, the longest file for it, and the saying itself.
+type Row = (&'static str, Operation, usize, Says);
+
 #[rustfmt::skip] // one row, one line
-const ALL: [(&str, Operation, usize, Says); 9] = [
+const ALL: [Row; 9] = [
     ("a bad style is placed a byte too far", Operation::Check, 13, style_misplaced),
     ("a missing 17 is refused at the end", Operation::Check, 6, missing_misplaced),
     ("the excess of tag 7 is forgotten", Operation::Layout, 10, excess_forgotten),
@@ -45,7 +49,7 @@ const ALL: [(&str, Operation, usize, Says); 9] = [
 
 /// Right but for the letter a in texts, so that masks are not answered alike.
 #[rustfmt::skip] // one row, one line
-const OF_MASKS: [(&str, Operation, usize, Says); 4] = [
+const OF_MASKS: [Row; 4] = [
     ("all lines break where there is an a", Operation::Layout, 30, broken_lines),
     ("a line moves where there is an a", Operation::Plain, 30, moved_line),
     ("a body is longer where there is an a", Operation::Body, 20, longer_body),
@@ -60,8 +64,12 @@ pub fn of_masks() -> Vec<Wrong> {
     OF_MASKS.into_iter().map(Wrong::new).collect()
 }
 
+pub fn of_words() -> Vec<Wrong> {
+    of_words::ROWS.into_iter().map(Wrong::new).collect()
+}
+
 impl Wrong {
-    fn new((name, part, longest, says): (&'static str, Operation, usize, Says)) -> Self {
+    fn new((name, part, longest, says): Row) -> Self {
         Self {
             name,
             part: [part],
@@ -112,12 +120,22 @@ fn excess_forgotten(request: &Request) -> Outcome {
 }
 
 fn without_tag_7(fields: &[Field]) -> Vec<Field> {
-    let plain = |field: &Field| match field {
-        Field::Leaf(IF_BLOCK_LAYOUT, value) if !value.contains(&b'\n') => field::text(&value[..]),
-        Field::Inner(tag, inside) => Field::Inner(*tag, without_tag_7(inside)),
+    replaced(fields, |field| match field {
+        Field::Leaf(IF_BLOCK_LAYOUT, value) if !value.contains(&b'\n') => {
+            Some(field::text(&value[..]))
+        }
+        _ => None,
+    })
+}
+
+/// The fields with another in place of each, at any depth, for which there is one.
+fn replaced(fields: &[Field], by: fn(&Field) -> Option<Field>) -> Vec<Field> {
+    let unchanged = |field: &Field| match field {
+        Field::Inner(tag, inside) => Field::Inner(*tag, replaced(inside, by)),
         other => other.clone(),
     };
-    fields.iter().map(plain).collect()
+    let new = |field| by(field).unwrap_or_else(|| unchanged(field));
+    fields.iter().map(new).collect()
 }
 
 fn block_places(file: &[u8]) -> Vec<usize> {
