@@ -43,8 +43,8 @@ module _ (cost : Item ℕ → ℕ) (made-1 : (b : ℕ) → cost (char (made b)) 
   release-cost : (w : Option Break) (l : Line) → cost-all cost (release w l .0) ≤ 1
   unfolding release cost-all
   release-cost none l = omega arith
-  release-cost (some a-space) l = making-cost (32 ∷ [])
-  release-cost (some a-newline) l = making-cost (10 ∷ [])
+  release-cost (some a-space) l = making-cost _
+  release-cost (some a-newline) l = making-cost _
 
   levels-cost : (k t : ℕ) → cost-all cost (levels k t) ≤ 1 + 2 * t
   unfolding levels

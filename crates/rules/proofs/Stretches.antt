@@ -227,7 +227,7 @@ module _ {X : Type 0} (newline : X → Bool) where
         let same : ns .1 ⊕ Inline 0 0 ≡ ns .1 = in-turn-settled i b (s .waiting) _ W (ahead-settled (s .shape) (leaf n r) S) in
         fragment-ahead r i b _ (node-settled i b own (leaf-flexible n) s (rigid-settled n)) (node-steady i b own (leaf-flexible n) s W (leaf-steady n))
         ∙ node-turn i b own (leaf-flexible n) s r
-        ∙ ap (λ (so : Shape). let r′ : Frag X × Shape = lay newline r i b (past newline own so r) in (before (s .done ++ ns .0) (leaf n (r′ .0)), r′ .1)) same
+        ∙ ap (λ (so : Shape). let r′ : Frag X × Shape = lay newline r i b (past newline own so r) in (before (s .done ++ ns .0) (before (leaf-flexible n i b .0 ∷ []) (r′ .0)), r′ .1)) same
     fragment-ahead (block k fs r) i b s S W =
         let f : Flexible X = block-flexible k (λ i b. lay-all newline fs i b (Inline 0 0)) in
         (λ j. fragment-layout newline r i b (and-node i b (rigid-block k) (block-flexible k (λ i b. fragments-ahead fs i b (Inline 0 0) j)) s))
