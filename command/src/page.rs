@@ -1,6 +1,8 @@
 //! A page of a fragment file at a width, by the proved library.
 
-use hazomeny::{append_html_body, append_html_document, append_plain_page, layout_file, Refusal};
+use hazomeny::{
+    append_html_body, append_html_document, append_plain_page, layout_file, Refusal, PLAIN_PER_BYTE,
+};
 
 #[derive(Clone, Copy)]
 pub enum Kind {
@@ -18,11 +20,18 @@ impl Kind {
         }
     }
 
+    /// Room for every plain page, and for nearly every page of HTML, of a file of so many bytes: there a page need not be measured first.
+    fn room(self, length: usize) -> usize {
+        match self {
+            Self::Plain => PLAIN_PER_BYTE * length,
+            Self::Body | Self::Document => 2 * length + 2_048,
+        }
+    }
+
     /// Lays the file out and has its page made. A refusal leaves the file as it was.
     pub fn of(self, file: &mut [u8], width: usize) -> Result<Vec<u8>, Refusal> {
         layout_file(file, width)?;
-        // room for nearly every page, so that it need not be measured first
-        let mut page = Vec::with_capacity(2 * file.len() + 2_048);
+        let mut page = Vec::with_capacity(self.room(file.len()));
         match self {
             Self::Plain => append_plain_page(file, &mut page)?,
             Self::Body => append_html_body(file, &mut page)?,

@@ -1,6 +1,6 @@
 //! The five entries on slices, and the three pages appended to a vector.
 
-use crate::{Refusal, MOST_BYTES};
+use crate::{Refusal, MOST_BYTES, PLAIN_PER_BYTE};
 
 /// The C names of the proved library; `include/hazomeny.h` says what each does.
 mod c {
@@ -123,8 +123,9 @@ pub fn html_document(file: &[u8], page: &mut [u8]) -> Result<usize, Refusal> {
 /// Appends the plain page of a file to `page`, which grows as needed, and says how many bytes it added. A refusal leaves `page`'s bytes as they
 /// were.
 ///
-/// It makes room for as many bytes as the file has, which nearly every page fits in. With [`PLAIN_PER_BYTE`](crate::PLAIN_PER_BYTE) times as
-/// many there already, `page` never has to grow.
+/// It makes room for the longest page that such a file can have, [`PLAIN_PER_BYTE`](crate::PLAIN_PER_BYTE) times its length, so that the page
+/// is written without being measured. A vector that had no room before keeps no more than the page takes; another keeps what it has grown to,
+/// for the next page.
 ///
 /// ```
 /// let mut page = b"> ".to_vec();
@@ -132,9 +133,13 @@ pub fn html_document(file: &[u8], page: &mut [u8]) -> Result<usize, Refusal> {
 /// assert_eq!(page, b"> ok");
 /// ```
 pub fn append_plain_page(file: &[u8], page: &mut Vec<u8>) -> Result<usize, Refusal> {
-    // nearly every page is shorter than its file, and with so much room it need not be measured first
-    page.reserve(file.len().min(MOST_BYTES));
-    append(c::hazomeny_plain, file, page)
+    let had_none = page.capacity() == 0;
+    page.reserve(PLAIN_PER_BYTE * file.len().min(MOST_BYTES));
+    let said = append_to_spare(c::hazomeny_plain, file, page);
+    if had_none {
+        page.shrink_to_fit();
+    }
+    said
 }
 
 /// Appends the HTML body of a file; otherwise as [`append_plain_page`].

@@ -215,6 +215,22 @@ fn a_vector_with_room_keeps_its_place() {
 }
 
 #[test]
+fn a_new_vector_keeps_no_more_than_it_needs() {
+    for file in [call(), indented_lines(500)] {
+        let mut page = Vec::new();
+        let length = append_plain_page(&file, &mut page).expect("the file is accepted");
+        assert!(
+            page.capacity() < length + 16,
+            "{} bytes of room for {length}",
+            page.capacity()
+        );
+    }
+    let mut page = Vec::new();
+    append_plain_page(&[99; 100], &mut page).expect_err("no field");
+    assert_eq!(page.capacity(), 0);
+}
+
+#[test]
 fn an_empty_page_adds_nothing() {
     for mut page in [Vec::new(), b"as it was".to_vec()] {
         let before = page.clone();
