@@ -2,6 +2,7 @@
 pub mod Basics
 pub mod Open
 pub mod MaskExample
+pub mod WordsExample
 pub mod Examples
 pub mod Chains
 pub mod Fuel

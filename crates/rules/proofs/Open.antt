@@ -19,6 +19,7 @@ use Rattle.rules.specs.Html.{separated, colour-css, weight-css, size-css
 use Rattle.rules.specs.Answers.{tree, check-answer, laid-out, changed, left-laid, layout-outcome, plain-text, body-text, document-text, written, left-page, plain-outcome, body-outcome, document-outcome}
 use Rattle.rules.specs.Mask.{is-text, in-texts, accepted-texts, text-places, mask-byte, mask-bytes, mask}
 use Rattle.rules.specs.Alike.{places, place-tree, page-list}
+use Rattle.rules.specs.SameWords.{white, white-item, without, words, visible, marks, accepted-fields, file-fields, texts, without-7, page-items}
 use Rattle.rules.specs.Cases.{nibble, paired, still, pairs, unhex, print-at, answer, case, writes, leaves, nested, call, examples}
 use Rattle.rules.specs.Refusals.{answers, no, no-bytes, inside-blocks, refusals}
 
@@ -37,5 +38,6 @@ unfolding
     scope scoped lines style-element before-body after-body document
     tree check-answer laid-out changed left-laid layout-outcome plain-text body-text document-text written left-page plain-outcome body-outcome document-outcome
     is-text in-texts accepted-texts text-places mask-byte mask-bytes mask places place-tree page-list
+    white white-item without words visible marks accepted-fields file-fields texts without-7 page-items
     nibble paired still pairs unhex print-at answer case writes leaves nested call examples answers no no-bytes inside-blocks refusals
 all-open = 0
