@@ -12,12 +12,16 @@ use crate::shrink::shrink;
 use crate::subject::{self, Said, Subject};
 use crate::tree;
 use crate::wire;
+use crate::words::MOST_TIMES;
 
 /// A batch is asked when it holds so many requests, or so many bytes of files
 /// and lent bytes: few enough to hold, and enough that starting a command for
 /// each batch costs little.
 const MOST_REQUESTS: usize = 4_000;
 const MOST_BYTES: usize = 1 << 24;
+
+/// The plain page of one file in so many is also asked for in rooms around the bound on its length, which are large.
+const AROUND_THE_BOUND: usize = 8;
 
 /// A request with what is right for it.
 pub struct Case {
@@ -152,8 +156,7 @@ impl Run<'_> {
         self.ask(Asked::layout(width, file), laid_out.right())
     }
 
-    /// Each page in rooms of no byte, a byte too few, just enough, and more; where
-    /// there is no page to be too long, in no room and in some.
+    /// Each page in several rooms.
     fn ask_pages(
         &mut self,
         random: &mut Random,
@@ -169,13 +172,7 @@ impl Run<'_> {
                 Ok(pages) => Ok(&pages[index][..]),
                 Err(refusal) => Err(*refusal),
             };
-            let more = random.between(1, 40);
-            let mut rooms = match page.map(<[u8]>::len) {
-                Ok(length) => vec![0, length.saturating_sub(1), length, length + more],
-                Err(_) => vec![0, more],
-            };
-            rooms.dedup();
-            for room in rooms {
+            for room in rooms(random, operation, file, page.map(<[u8]>::len).ok()) {
                 let right = answers::page_right(page, room);
                 self.ask(Asked::page(operation, room, file), right)?;
             }
@@ -263,4 +260,25 @@ impl Disagreement {
              the Rust says:    {right}\n  the subject said: {said}"
         )
     }
+}
+
+/// No byte, a byte too few, just enough, and more; where there is no page to be too long, no byte and some. For the plain pages of some files also the room
+/// from which on a page surely fits, and a byte less.
+fn rooms(
+    random: &mut Random,
+    operation: Operation,
+    file: &[u8],
+    length: Option<usize>,
+) -> Vec<usize> {
+    let more = random.between(1, 40);
+    let mut rooms = match length {
+        Some(length) => vec![0, length.saturating_sub(1), length, length + more],
+        None => vec![0, more],
+    };
+    if operation == Operation::Plain && random.one_in(AROUND_THE_BOUND) {
+        let bound = MOST_TIMES * file.len();
+        rooms.extend([bound.saturating_sub(1), bound]);
+    }
+    rooms.dedup();
+    rooms
 }
