@@ -7,8 +7,10 @@ pub mod HtmlLengths
 pub mod StateLaws
 pub mod Running
 pub mod Pens
+pub mod Quiet
 pub mod Going
 pub mod TextLines
+pub mod Verbatim
 pub mod LeafLaws
 pub mod WalkLaws
 pub mod WholeLaws

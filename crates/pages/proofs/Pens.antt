@@ -1,18 +1,16 @@
--- What the pen writes: an operation's own bytes, all of one operation, and a mark of which nothing shows.
-use Rattle.rules.proofs.Basics.{_≡_, refl, sym, ap, _∙_, List, [], _∷_, _++_, append-nil, Bool, true, none, ℕ, _/_, _%_, arith, eqb→eq}
-use Rattle.rules.specs.Lines.{Mark, push, pop, open-anchor, close-anchor, LineOp, mark, Machine, has-text, Item, marked, making, release, spacing, item, step, run, after}
+-- What the pen writes: an operation's own bytes, and all of one operation.
+use Rattle.rules.proofs.Basics.{_≡_, refl, ap, _∙_, List, [], _∷_, _++_, append-nil, Bool, ℕ}
+use Rattle.rules.specs.Lines.{Mark, open-anchor, close-anchor, Item, marked, making, step, run, after}
 use Rattle.rules.specs.Plain.{chars, fill}
 use Rattle.rules.specs.Html.{escape, mark-html, item-html, items-html}
 use Rattle.rules.specs.Answers.{itself}
-use Rattle.styles.specs.StylesIn.{styles-in}
 use Rattle.writing.specs.Written.{Written}
 use Rattle.writing.proofs.Laws as writing
 use Rattle.lines.specs.declared.LineOp as O
 use Rattle.lines.specs.declared.Machine as M
 use Rattle.lines.specs.declared.Stepped.{Stepped}
 use Rattle.lines.specs.Said.{machine-of, before-bytes, step-of, operation, copies, own}
-use Rattle.pages.specs.Ran.{shown, machine, form, Ran, IsMark, Interpreted}
-use Rattle.pages.specs.States.{line-numbered, waiting-numbered, form-numbered, machine-in, form-in, quiet}
+use Rattle.pages.specs.Ran.{shown, machine, form, Interpreted}
 use Rattle.pages.specs.declared.state.Form as F
 use Rattle.pages.specs.declared.pen.Pen.{Pen}
 use Rattle.pages.proofs.Running.{shown-append}
@@ -86,47 +84,3 @@ one-operation op v m f {p} {p′} s mine its e w own-w is kept =
         form-kept = kept ∙ its;
       };
     }
-
--- ---- a mark where nothing shows
-
-quiet-machine : (n : ℕ) → quiet n ≡ true → (machine-in n ≡ record { level = n % 65536; line = has-text; waiting = none }) × (form-in n ≡ F.the-variants.Plain)
-unfolding quiet machine-in form-in line-numbered waiting-numbered form-numbered
-quiet-machine n e =
-    let q : n / 65536 ≡ 8 = eqb→eq (n / 65536) 8 (rw e tt) in
-    let l : n / 524288 ≡ 1 = omega (arith, q) in
-    let w : (n / 131072) % 4 ≡ 0 = omega (arith, q) in
-    let f : (n / 65536) % 2 ≡ 0 = omega (arith, q) in
-    (rw (l, w) refl, rw f refl)
-
--- the machine of such a line
-abbrev within-line : ℕ → Machine
-within-line l = record { level = l; line = has-text; waiting = none }
-
-quiet-step : (l : ℕ) (k : Mark ℕ) → step (within-line l) (mark k) ≡ (marked k ∷ [], within-line l)
-unfolding step item release spacing
-quiet-step l k = refl
-
-quiet-ran : (k : Mark ℕ) {p : Pen} {page : List ℕ} → quiet (p .state) ≡ true → Ran (mark k ∷ []) p page p page
-unfolding after run shown chars fill
-quiet-ran k {p} {page} e =
-    let (m, f) = quiet-machine (p .state) e in
-    let l : ℕ = p .state % 65536 in
-    let s : step (machine p) (mark k) ≡ (marked k ∷ [], within-line l) = ap (λ x. step x (mark k)) m ∙ quiet-step l k in
-    record {
-      machine-then = m ∙ sym (ap (λ x. x .1) s);
-      written = rw (f, ap (λ x. x .0) s) writing.nothing;
-      form-kept = refl;
-    }
-
-pub quiet-mark : (op : O.LineOp) (v : List ℕ) {p : Pen} {page : List ℕ} → IsMark op → quiet (p .state) ≡ true → Interpreted op v p page p page
-unfolding IsMark operation
-quiet-mark O.the-variants.PushStyles v q e = record { ran = quiet-ran (push (styles-in v)) e }
-quiet-mark O.the-variants.PopStyles v q e = record { ran = quiet-ran (pop (styles-in v)) e }
-quiet-mark (O.the-variants.PushAnchor d) v q e = record { ran = quiet-ran (open-anchor d v) e }
-quiet-mark O.the-variants.PopAnchor v q e = record { ran = quiet-ran close-anchor e }
-quiet-mark O.the-variants.PushIndent v q e = absurd q
-quiet-mark O.the-variants.PopIndent v q e = absurd q
-quiet-mark (O.the-variants.EmptyAnchor d) v q e = absurd q
-quiet-mark O.the-variants.AppendToLine v q e = absurd q
-quiet-mark O.the-variants.StartNewLine v q e = absurd q
-quiet-mark (O.the-variants.BreakIfWithinLine b) v q e = absurd q

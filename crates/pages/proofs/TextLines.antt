@@ -6,17 +6,12 @@ use Rattle.rules.specs.Lines.{part, new-line, later, text-ops}
 use Rattle.lines.specs.declared.LineOp.the-variants as Op
 use Rattle.lines.specs.Said.{operation}
 use Rattle.texts.specs.FirstLine.{first-long}
-use Rattle.pages.specs.OpsIn.{Ops}
+use Rattle.pages.specs.OpsIn.{Ops, later-in}
 use Rattle.pages.specs.Ran.{Interpreted, Rendered}
 use Rattle.pages.specs.declared.pen.Pen.{Pen}
 use Rattle.pages.proofs.Running.{nothing, and-then, by, quietly}
 
 -- ---- the first line
-
--- the operations behind a text's first line: at its newline, or at its end
-unfoldable pub later-in : List ℕ → Ops
-later-in [] = []
-later-in (x ∷ v) = new-line ∷ text-ops newline v
 
 first-then : (t : Bool) (x : ℕ) (a : List ℕ) (bs : List (List ℕ)) (v : List ℕ) → a ≡ take (length a) v → later bs ≡ later-in (drop (length a) v)
     → part a ∷ later bs ≡ text-ops newline v
@@ -54,46 +49,61 @@ next-ends v at h e =
 
 -- ---- the later lines
 
--- the loop has come from at₀ to `at`, a newline or the end: the lines between have run
+-- at a newline
+behind : (v : List ℕ) (at : ℕ) → at < length v → later-in (drop at v) ≡ new-line ∷ text-ops newline (drop (at + 1) v)
+unfolding later-in
+behind v at h = rw (drop-cons v at 0 h, ← (add-one at)) refl
+
+-- the code's slice behind it is all that is left
+rest : (v : List ℕ) (at : ℕ) → take (length v - (at + 1)) (drop (at + 1) v) ≡ drop (at + 1) v
+rest v at = take-all (length v - (at + 1)) (drop (at + 1) v) (omega (arith, length-drop (at + 1) v))
+
+module _ (v : List ℕ) (at : ℕ) {p : Pen} {page : List ℕ} where
+  pub none-later : length v ≤ at → Rendered (later-in (drop at v)) p page p page
+  unfolding later-in
+  none-later h = by nothing (sym (rw (drop-of-length-le v h)))
+
+  pub one-later : {p′ : Pen} {page′ : List ℕ} → at < length v → Rendered (new-line ∷ text-ops newline (take (length v - (at + 1)) (drop (at + 1) v))) p page p′ page′ → Rendered (later-in (drop at v)) p page p′ page′
+  one-later h f = by f (sym (behind v at h ∙ ap (λ (s : List ℕ). new-line ∷ text-ops newline s) (sym (rest v at))))
+
+pub first-and-later : (v : List ℕ) {n : ℕ} {p p₁ p₂ : Pen} {page page₁ page₂ : List ℕ} → n ≡ first-long v → Interpreted Op.AppendToLine (take n v) p page p₁ page₁
+    → Rendered (later-in (drop n v)) p₁ page₁ p₂ page₂ → Rendered (text-ops newline v) p page p₂ page₂
+unfolding operation
+first-and-later v {n} e f g = by (and-then (quietly f tt) g) (sym (text-line v n e))
+
+-- ---- the loop over them
+
+-- it has come from at₀ to `at`: the lines between have run
 pub record LinesDone (v : List ℕ) (at₀ : ℕ) (p₀ : Pen) (page₀ : List ℕ) (at : ℕ) (p : Pen) (page : List ℕ) : Type 0 where
-  pub within : at ≤ length v
   pub done : Ops
   pub left : later-in (drop at₀ v) ≡ done ++ later-in (drop at v)
   pub rendered : Rendered done p₀ page₀ p page
 
-pub lines-start : {v : List ℕ} {at : ℕ} {p : Pen} {page : List ℕ} → at ≡ first-long v → LinesDone v at p page at p page
-lines-start {v} e = record { within = first-ends v e; done = []; left = refl; rendered = nothing }
+pub lines-start : {v : List ℕ} {at : ℕ} {p : Pen} {page : List ℕ} → LinesDone v at p page at p page
+lines-start = record { done = []; left = refl; rendered = nothing }
 
 -- behind a newline: a new line, and the line there
 line-behind : (v : List ℕ) (at n : ℕ) → at < length v → n ≡ first-long (drop (at + 1) v)
     → later-in (drop at v) ≡ new-line ∷ part (take n (drop (at + 1) v)) ∷ later-in (drop (at + 1 + n) v)
-unfolding later-in
-line-behind v at n h e =
-    rw (drop-cons v at 0 h) (ap (λ (os : Ops). new-line ∷ os) (rw (← (add-one at)) (text-line (drop (at + 1) v) n e ∙ ap (λ (s : List ℕ). part (take n (drop (at + 1) v)) ∷ later-in s) (drop-drop n (at + 1) v))))
+line-behind v at n h e = behind v at h ∙ ap (λ (os : Ops). new-line ∷ os) (text-line (drop (at + 1) v) n e ∙ ap (λ (s : List ℕ). part (take n (drop (at + 1) v)) ∷ later-in s) (drop-drop n (at + 1) v))
 
 module _ {v : List ℕ} {at₀ : ℕ} {p₀ : Pen} {page₀ : List ℕ} {at : ℕ} {p : Pen} {page : List ℕ} (l : LinesDone v at₀ p₀ page₀ at p page) where
   pub next-within : {n : ℕ} → at < length v → n ≡ first-long (take (length v - (at + 1)) (drop (at + 1) v)) → at + 1 + n ≤ length v
-  next-within = next-ends v at
+  next-within h e = omega (arith, first-ends (drop (at + 1) v) (e ∙ ap first-long (rest v at)), length-drop (at + 1) v)
 
   pub lines-more : {n : ℕ} {w : List ℕ} {p₁ p₂ : Pen} {page₁ page₂ : List ℕ} → at < length v → n ≡ first-long (take (length v - (at + 1)) (drop (at + 1) v))
       → Interpreted Op.StartNewLine w p page p₁ page₁ → Interpreted Op.AppendToLine (take (at + 1 + n - (at + 1)) (drop (at + 1) v)) p₁ page₁ p₂ page₂
       → LinesDone v at₀ p₀ page₀ (at + 1 + n) p₂ page₂
   unfolding operation
   lines-more {n} h e f g =
-      let s : List ℕ = drop (at + 1) v in
-      let e′ : n ≡ first-long s = e ∙ ap first-long (take-all (length v - (at + 1)) s (omega (arith, length-drop (at + 1) v))) in
       let k : at + 1 + n - (at + 1) ≡ n = omega arith in
-      let os : Ops = new-line ∷ part (take n s) ∷ [] in
+      let os : Ops = new-line ∷ part (take n (drop (at + 1) v)) ∷ [] in
       record {
-        within = next-ends v at h e;
         done = l .done ++ os;
-        left = l .left ∙ ap (λ (os : Ops). l .done ++ os) (line-behind v at n h e′) ∙ sym (append-assoc (l .done) os (later-in (drop (at + 1 + n) v)));
+        left = l .left ∙ ap (λ (os : Ops). l .done ++ os) (line-behind v at n h (e ∙ ap first-long (rest v at))) ∙ sym (append-assoc (l .done) os (later-in (drop (at + 1 + n) v)));
         rendered = and-then (l .rendered) (and-then (quietly f tt) (quietly (rw k at g) tt));
       }
 
-  pub lines-end : {pen : Pen} {page⁻ : List ℕ} → length v ≤ at → at₀ ≡ first-long v → Interpreted Op.AppendToLine (take at₀ v) pen page⁻ p₀ page₀
-      → Rendered (text-ops newline v) pen page⁻ p page
-  unfolding later-in operation
-  lines-end h e f =
-      let all : later-in (drop at₀ v) ≡ l .done = l .left ∙ rw (drop-of-length-le v h, append-nil (l .done)) in
-      by (and-then (quietly f tt) (l .rendered)) (sym (text-line v at₀ e ∙ ap (λ (os : Ops). part (take at₀ v) ∷ os) all))
+  pub lines-end : length v ≤ at → Rendered (later-in (drop at₀ v)) p₀ page₀ p page
+  unfolding later-in
+  lines-end h = by (l .rendered) (sym (l .left ∙ rw (drop-of-length-le v h, append-nil (l .done))))

@@ -6,7 +6,7 @@ use Prim.Native.Nat.{ℕ, zero, suc}
 use lib.Dec.{leb, eqb}
 use lib.ListN.{length, getD, drop}
 use Rattle.rules.specs.Bytes.{if_then_else_, newline}
-use Rattle.rules.specs.Lines.{LineOp, mark, push, pop, open-anchor, close-anchor, empty-anchor, break, a-space, a-newline, indent, unindent, text-ops}
+use Rattle.rules.specs.Lines.{LineOp, new-line, mark, push, pop, open-anchor, close-anchor, empty-anchor, break, a-space, a-newline, indent, unindent, text-ops}
 use Rattle.fields.specs.declared.Field.{Field}
 use Rattle.fields.specs.declared.Field.the-variants.{Whole, Past, Cut}
 use Rattle.fields.specs.FieldAt.{field-at}
@@ -27,6 +27,11 @@ unfoldable pub each-from : (List ℕ → Ops) → (from : ℕ) → List ℕ → 
 each-from f from s = each f (length s) (drop from s)
 
 -- ---- a text
+
+-- behind its first line: at a newline, or at the end
+unfoldable pub later-in : List ℕ → Ops
+later-in [] = []
+later-in (x ∷ v) = new-line ∷ text-ops newline v
 
 -- the 17 behind a style
 unfoldable pub styled-in : List ℕ → (style : List ℕ) → Field → Ops

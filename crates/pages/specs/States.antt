@@ -31,6 +31,10 @@ form-in n = form-numbered ((n / 65536) % 2)
 unfoldable pub quiet : ℕ → Bool
 quiet n = eqb (n / 65536) 8
 
+-- a plain page, and no indent
+unfoldable pub at-margin : ℕ → Bool
+at-margin n = eqb (n % 131072) 0
+
 -- the levels of a line that has no text yet
 unfoldable pub levels-of : rules.Line → ℕ
 levels-of rules.empty = 0

@@ -1,4 +1,5 @@
 // Texts and anchors: nodes that are no blocks.
+use crate::bytes::render_bytes;
 use crate::pen::Pen;
 use crate::pen::interpret;
 use crate::pen::interpret_mark;
@@ -7,29 +8,9 @@ use fields::field_at;
 use lines::Break;
 use lines::LineOp;
 use parts::field_end;
-use texts::first_line_end;
 ghost use Prim.Native.Nat.{_<_, _^_};
-ghost use Rattle.rules.specs.Bytes.{newline};
-ghost use Rattle.rules.specs.Lines.{text-ops};
 ghost use Rattle.pages.specs.OpsIn.{run-in, run-field-in, each-from, anchor-in, if-block-in, leaf-in};
 ghost use Rattle.pages.specs.Ran.{indent-of, Rendered};
-
-// The bytes of a text: the part before the first newline, then for each later part a new line and the part.
-fn render_bytes(v: &[u8], page: &mut [u8], pen: Pen) -> Pen
-    requires { ⌜ indent-of pen < 2 ^ 15 ⌝ }
-    ensures { λ r. ⌜ Rendered (text-ops newline (now (v .entry))) pen (now (page .entry)) r (now (page .exit)) ⌝ }
-{
-    let mut at = first_line_end(v);
-    let mut p = interpret(page, pen, LineOp::AppendToLine, &v[..at]);
-    while at < v.len() {
-        let from = at + 1;
-        let to = from + first_line_end(&v[from..]);
-        p = interpret(page, p, LineOp::StartNewLine, b"");
-        p = interpret(page, p, LineOp::AppendToLine, &v[from..to]);
-        at = to;
-    }
-    p
-}
 
 // The value of a 1: a 17, or a 16 and a 17.
 fn render_text(v: &[u8], page: &mut [u8], pen: Pen) -> Pen

@@ -135,3 +135,18 @@ pub fn interpret_mark(page: &mut [u8], pen: Pen, op: LineOp, text: &[u8]) -> Pen
     }
     interpret(page, pen, op, text)
 }
+
+// A part of a text. On a plain page, on a line with text where no break waits, its bytes are all that shows.
+pub fn interpret_part(page: &mut [u8], pen: Pen, text: &[u8]) -> Pen
+    requires { ⌜ indent-of pen < 2 ^ 15 ⌝ }
+    ensures { λ r. ⌜ Interpreted LineOp.AppendToLine (now (text .entry)) pen (now (page .entry)) r (now (page .exit)) ⌝ }
+{
+    if nothing_shows(pen.state) {
+        let at = put_bytes(page, pen.at, text);
+        return Pen {
+            at,
+            state: pen.state,
+        };
+    }
+    interpret(page, pen, LineOp::AppendToLine, text)
+}

@@ -5,8 +5,11 @@ use lines::Machine;
 use lines::Waiting;
 ghost use mathlib.Core.Path.{_≡_};
 ghost use Prim.Native.Nat.{_<_, _^_};
+ghost use Rattle.rules.specs.Bytes.{newline};
+ghost use Rattle.rules.specs.Lines.{text-ops, start, after};
 ghost use Rattle.lines.specs.Said.{line-of, waiting-of, machine-of};
-ghost use Rattle.pages.specs.States.{line-numbered, waiting-numbered, form-numbered, machine-in, form-in, quiet, Fits};
+ghost use Rattle.pages.specs.States.{line-numbered, waiting-numbered, form-numbered, machine-in, form-in, quiet, at-margin, Fits};
+ghost use Rattle.pages.specs.declared.state.Form.the-variants as Form;
 
 // How items are shown: texts alone, or texts escaped and marks as tags.
 pub enum Form {
@@ -111,4 +114,25 @@ pub fn nothing_shows(state: usize) -> bool
     ensures { λ r. ⌜ r ≡ quiet state ⌝ }
 {
     state / FORM == LINE / FORM
+}
+
+// A plain page, and no indent.
+pub fn plain_at_margin(state: usize) -> bool
+    ensures { λ r. ⌜ r ≡ at-margin state ⌝ }
+{
+    state % WAITING == 0
+}
+
+// The state that a text leaves which begins an empty line there: its last byte says whether the line has text.
+pub fn state_behind(v: &[u8]) -> usize
+    ensures { λ r. ⌜ (machine-in r ≡ after start (text-ops newline (now (v .entry)))) × (form-in r ≡ Form.Plain) ⌝ }
+{
+    if v.len() == 0 {
+        return 0;
+    }
+    let last = v.len() - 1;
+    if v[last] == b'\n' {
+        return 0;
+    }
+    LINE
 }

@@ -1,6 +1,6 @@
 -- `pages::pen::interpret_mark` meets its contract: nothing shows, or it is interpreted.
 use Rattle.rules.proofs.Basics.{sym, _∙_, needs}
-use Rattle.pages.proofs.Pens.{quiet-mark}
+use Rattle.pages.proofs.Quiet.{quiet-mark}
 use Rattle.pages.proofs.pen.interpret_mark.Statement.{statement}
 use Rattle.pages.proofs.pen.interpret_mark.Tie as tie
 

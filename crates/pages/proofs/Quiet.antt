@@ -1,0 +1,71 @@
+-- A line with text on a plain page, where no break waits: of an operation nothing shows but its own bytes.
+use Rattle.rules.proofs.Basics.{_≡_, refl, sym, ap, _∙_, List, [], _∷_, append-nil, true, none, ℕ, _/_, _%_, arith, eqb→eq}
+use Rattle.rules.specs.Lines.{Mark, push, pop, open-anchor, close-anchor, LineOp, part, mark, Machine, has-text, Item, marked, release, spacing, item, step, run, after}
+use Rattle.rules.specs.Plain.{chars, fill}
+use Rattle.styles.specs.StylesIn.{styles-in}
+use Rattle.writing.specs.Written.{Written}
+use Rattle.writing.proofs.Laws as writing
+use Rattle.lines.specs.declared.LineOp as O
+use Rattle.lines.specs.Said.{operation, copies}
+use Rattle.pages.specs.Ran.{shown, machine, Ran, IsMark, Interpreted}
+use Rattle.pages.specs.States.{line-numbered, waiting-numbered, form-numbered, machine-in, form-in, quiet}
+use Rattle.pages.specs.declared.state.Form as F
+use Rattle.pages.specs.declared.pen.Pen.{Pen}
+use Rattle.pages.proofs.Pens.{shown-copies}
+
+-- the machine of such a line
+abbrev pub within-line : ℕ → Machine
+within-line l = record { level = l; line = has-text; waiting = none }
+
+quiet-machine : (n : ℕ) → quiet n ≡ true → (machine-in n ≡ within-line (n % 65536)) × (form-in n ≡ F.the-variants.Plain)
+unfolding quiet machine-in form-in line-numbered waiting-numbered form-numbered
+quiet-machine n e =
+    let q : n / 65536 ≡ 8 = eqb→eq (n / 65536) 8 (rw e tt) in
+    let l : n / 524288 ≡ 1 = omega (arith, q) in
+    let w : (n / 131072) % 4 ≡ 0 = omega (arith, q) in
+    let f : (n / 65536) % 2 ≡ 0 = omega (arith, q) in
+    (rw (l, w) refl, rw f refl)
+
+-- an operation that leaves the line as it is
+quiet-ran : (o : LineOp ℕ) (is : List (Item ℕ)) → ((l : ℕ) → step (within-line l) o ≡ (is, within-line l)) → {p p′ : Pen} {page page′ : List ℕ} → quiet (p .state) ≡ true
+    → Written page (p .at) (shown F.the-variants.Plain is) page′ (p′ .at) → p′ .state ≡ p .state → Ran (o ∷ []) p page p′ page′
+unfolding after run
+quiet-ran o is leaves {p} e w k =
+    let (m, f) = quiet-machine (p .state) e in
+    let s : step (machine p) o ≡ (is, within-line (p .state % 65536)) = ap (λ x. step x o) m ∙ leaves (p .state % 65536) in
+    record {
+      machine-then = ap machine-in k ∙ m ∙ sym (ap (λ x. x .1) s);
+      written = rw (f, ap (λ x. x .0) s, append-nil is) w;
+      form-kept = ap form-in k;
+    }
+
+-- ---- a part
+
+pub part-step : (v : List ℕ) (l : ℕ) → step (within-line l) (part v) ≡ (copies v, within-line l)
+unfolding step item release spacing copies
+part-step [] l = refl
+part-step (x ∷ v) l = refl
+
+pub quiet-part : (v : List ℕ) {p p′ : Pen} {page page′ : List ℕ} → quiet (p .state) ≡ true → Written page (p .at) v page′ (p′ .at) → p′ .state ≡ p .state
+    → Interpreted O.the-variants.AppendToLine v p page p′ page′
+unfolding operation
+quiet-part v e w k = record { ran = quiet-ran (part v) (copies v) (part-step v) e (rw (shown-copies v) w) k }
+
+-- ---- a mark, of which nothing shows at all
+
+mark-ran : (k : Mark ℕ) {p : Pen} {page : List ℕ} → quiet (p .state) ≡ true → Ran (mark k ∷ []) p page p page
+unfolding step item release spacing shown chars fill
+mark-ran k e = quiet-ran (mark k) (marked k ∷ []) (λ l. refl) e writing.nothing refl
+
+pub quiet-mark : (op : O.LineOp) (v : List ℕ) {p : Pen} {page : List ℕ} → IsMark op → quiet (p .state) ≡ true → Interpreted op v p page p page
+unfolding IsMark operation
+quiet-mark O.the-variants.PushStyles v q e = record { ran = mark-ran (push (styles-in v)) e }
+quiet-mark O.the-variants.PopStyles v q e = record { ran = mark-ran (pop (styles-in v)) e }
+quiet-mark (O.the-variants.PushAnchor d) v q e = record { ran = mark-ran (open-anchor d v) e }
+quiet-mark O.the-variants.PopAnchor v q e = record { ran = mark-ran close-anchor e }
+quiet-mark O.the-variants.PushIndent v q e = absurd q
+quiet-mark O.the-variants.PopIndent v q e = absurd q
+quiet-mark (O.the-variants.EmptyAnchor d) v q e = absurd q
+quiet-mark O.the-variants.AppendToLine v q e = absurd q
+quiet-mark O.the-variants.StartNewLine v q e = absurd q
+quiet-mark (O.the-variants.BreakIfWithinLine b) v q e = absurd q
