@@ -312,36 +312,38 @@ fn tally_words(tally: &Tally) -> String {
 }
 
 fn run_masks(options: &Options) -> Result<ExitCode, Mistake> {
-    let [] = options.words()?;
-    let seed = seed(options)?;
-    let extent = extent(options)?;
-    let mut subject = subject(options, &Operation::ALL)?;
-    println!("seed {seed}");
-    let start = Instant::now();
-    match masks::run(&mut *subject, seed, extent) {
-        Ok(masks::Tally { files, requests }) => {
-            let rate = per_minute(files, start);
-            println!("alike: {files} files with their masks, requests {requests}; {rate}");
-            Ok(ExitCode::SUCCESS)
-        }
-        Err(stop) => stopped(stop, Unlike::words),
-    }
+    on_subject(options, Unlike::words, |subject, seed, extent| {
+        let masks::Tally { files, requests } = masks::run(subject, seed, extent)?;
+        let words = format!("alike: {files} files with their masks, requests {requests}");
+        Ok((files, words))
+    })
 }
 
 fn run_words(options: &Options) -> Result<ExitCode, Mistake> {
+    on_subject(options, words::Unlike::words, |subject, seed, extent| {
+        let tally = words::run(subject, seed, extent)?;
+        Ok((tally.files, format!("the same words: {}", tally.words())))
+    })
+}
+
+/// Runs something on a subject, and says what came of it: of how many files, in words.
+fn on_subject<Difference>(
+    options: &Options,
+    in_words: fn(&Difference) -> String,
+    run: impl FnOnce(&mut dyn Subject, u64, Extent) -> Result<(u64, String), Stop<Difference>>,
+) -> Result<ExitCode, Mistake> {
     let [] = options.words()?;
     let seed = seed(options)?;
     let extent = extent(options)?;
     let mut subject = subject(options, &Operation::ALL)?;
     println!("seed {seed}");
     let start = Instant::now();
-    match words::run(&mut *subject, seed, extent) {
-        Ok(tally) => {
-            let rate = per_minute(tally.files, start);
-            println!("the same words: {}; {rate}", tally.words());
+    match run(&mut *subject, seed, extent) {
+        Ok((files, words)) => {
+            println!("{words}; {}", per_minute(files, start));
             Ok(ExitCode::SUCCESS)
         }
-        Err(stop) => stopped(stop, words::Unlike::words),
+        Err(stop) => stopped(stop, in_words),
     }
 }
 
