@@ -22,19 +22,11 @@ one-more-cut n cut e = ap (λ (w : ℕ). w / 10) e ∙ div-div-eq-div-mul n (10 
 pub all-cut : (n : ℕ) {cut places w : ℕ} → w ≡ n / 10 ^ cut → cut ≡ places → w ≡ n / 10 ^ places
 all-cut n e h = rw (← h) e
 
-module _ {page page′ page″ : List ℕ} {at next r : ℕ} (n : ℕ) where
-  -- a place more is the last digit behind the places of a tenth
-  pub place-more : (places : ℕ) {b : ℕ} → b ≡ digit (n % 10) → (places ≡ 0 → ⊥) → Written page at (last-digits (places - 1) (n / 10)) page′ next
-      → Written page′ next (b ∷ []) page″ r → Written page at (last-digits places n) page″ r
-  unfolding last-digits
-  place-more zero e h f g = absurd (h refl)
-  place-more (suc p) e h f g = let p′ : suc p - 1 ≡ p = omega arith in rw (← e) (then (rw p′ at f) g)
-
-  pub point : (places : ℕ) → (places ≡ 0 → ⊥) → Written page at (46 ∷ []) page′ next → Written page′ next (last-digits places n) page″ r
-      → Written page at (fraction places n) page″ r
-  unfolding fraction
-  point zero h f g = absurd (h refl)
-  point (suc p) h f g = then f g
+pub point : {page page′ page″ : List ℕ} {at next r : ℕ} (n places : ℕ) → (places ≡ 0 → ⊥) → Written page at (46 ∷ []) page′ next
+    → Written page′ next (last-digits places n) page″ r → Written page at (fraction places n) page″ r
+unfolding fraction
+point n zero h f g = absurd (h refl)
+point n (suc p) h f g = then f g
 
 -- a decimal is its sign, what stands before its point, and the rest
 pub decimal : {page page′ page″ page‴ : List ℕ} {at from next r : ℕ} (d : Code.Decimal) {b : Bool} {w : ℕ}
