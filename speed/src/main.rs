@@ -33,5 +33,6 @@ fn run() -> Result<(), String> {
     print!("{}", table::times(&rows));
     print!("{}", goals::words(&rows));
     print!("{}", table::memory(&memory::rows()));
+    print!("{}", table::stacks(&memory::entries()));
     fs::write(picture, plot::svg(&rows)).map_err(|e| format!("{picture}: {e}"))
 }

@@ -2,7 +2,7 @@
 
 use crate::inputs::{self, SIZES};
 use crate::stack;
-use crate::timing::{Bench, Job};
+use crate::timing::{Bench, Entry, Job};
 use std::alloc::{GlobalAlloc, Layout, System};
 use std::sync::atomic::{AtomicUsize, Ordering::Relaxed};
 
@@ -67,4 +67,16 @@ fn most(bench: &mut Bench, job: Job) -> Most {
         stack: stack::used(|| bench.run(job)),
         heap,
     }
+}
+
+/// The most stack that each entry takes on any of the files.
+pub fn entries() -> [(Entry, usize); Entry::ALL.len()] {
+    let mut most = Entry::ALL.map(|entry| (entry, 0));
+    for input in inputs::all() {
+        let mut bench = Bench::new(input.file);
+        for (entry, stack) in &mut most {
+            *stack = (*stack).max(stack::used(|| bench.call(*entry)));
+        }
+    }
+    most
 }

@@ -1,7 +1,7 @@
 //! The tables, as text.
 
 use crate::memory::Taken;
-use crate::timing::{Job, Row};
+use crate::timing::{Entry, Job, Row};
 
 /// How many times ours the Rust takes.
 pub fn ratio(row: &Row, rust: Job, ours: Job) -> f64 {
@@ -40,6 +40,17 @@ pub fn memory(rows: &[Taken]) -> String {
             "| {} | {} | {} | {} | {} | {} |\n",
             row.kind, row.length, row.ours.stack, row.ours.heap, row.rust.stack, row.rust.heap
         );
+    }
+    out
+}
+
+/// The stack of each entry.
+pub fn stacks(rows: &[(Entry, usize)]) -> String {
+    let mut out = String::from(
+        "\nStack at the most on any of these files, in bytes\n\n| Entry | Stack |\n|---|---|\n",
+    );
+    for (entry, stack) in rows {
+        out += &format!("| `{}` | {stack} |\n", entry.name());
     }
     out
 }

@@ -42,6 +42,36 @@ impl Job {
     ];
 }
 
+/// The library's entries.
+#[derive(Clone, Copy)]
+pub enum Entry {
+    CheckFile,
+    LayoutFile,
+    PlainPage,
+    HtmlBody,
+    HtmlDocument,
+}
+
+impl Entry {
+    pub const ALL: [Self; 5] = [
+        Self::CheckFile,
+        Self::LayoutFile,
+        Self::PlainPage,
+        Self::HtmlBody,
+        Self::HtmlDocument,
+    ];
+
+    pub fn name(self) -> &'static str {
+        match self {
+            Self::CheckFile => "check_file",
+            Self::LayoutFile => "layout_file",
+            Self::PlainPage => "plain_page",
+            Self::HtmlBody => "html_body",
+            Self::HtmlDocument => "html_document",
+        }
+    }
+}
+
 /// A file, its laid out copy, and room for pages.
 pub struct Bench {
     file: Vec<u8>,
@@ -77,26 +107,33 @@ impl Bench {
 
     pub fn run(&mut self, job: Job) {
         match job {
-            Job::OursCheck => keep(hazomeny::check_file(&self.file)),
+            Job::OursCheck => self.call(Entry::CheckFile),
             Job::OursPlain => {
                 self.copy.copy_from_slice(&self.file);
-                keep(hazomeny::layout_file(&mut self.copy, WIDTH));
-                keep(hazomeny::plain_page(&self.copy, &mut self.page));
+                self.call(Entry::LayoutFile);
+                self.call(Entry::PlainPage);
             }
             Job::RustPlain | Job::RustPlainOfTree => {
                 drop(black_box(tree::laid_out_plain(&self.file, WIDTH as u16)));
             }
-            Job::OursHtml => keep(hazomeny::html_document(&self.laid_out, &mut self.page)),
+            Job::OursHtml => self.call(Entry::HtmlDocument),
             Job::RustHtml | Job::RustHtmlOfTree => {
                 drop(black_box(tree::document(&self.laid_out)));
             }
         }
     }
-}
 
-/// An answer that was asked for in earnest.
-fn keep(answer: Result<usize, hazomeny::Refusal>) {
-    black_box(answer).expect("the inputs are accepted");
+    /// One call of an entry: layout and plain page of the copy, HTML of the file that is laid out.
+    pub fn call(&mut self, entry: Entry) {
+        let answer = match entry {
+            Entry::CheckFile => hazomeny::check_file(&self.file),
+            Entry::LayoutFile => hazomeny::layout_file(&mut self.copy, WIDTH),
+            Entry::PlainPage => hazomeny::plain_page(&self.copy, &mut self.page),
+            Entry::HtmlBody => hazomeny::html_body(&self.laid_out, &mut self.page),
+            Entry::HtmlDocument => hazomeny::html_document(&self.laid_out, &mut self.page),
+        };
+        black_box(answer).expect("the inputs are accepted");
+    }
 }
 
 /// A file's median times, in nanoseconds, one for each job.
