@@ -17,18 +17,42 @@ pub struct Input {
 /// All kinds in all sizes; the same every time.
 pub fn all() -> impl Iterator<Item = Input> {
     let kinds = KINDS.iter();
-    kinds.flat_map(|kind| {
-        SIZES.iter().map(|size| Input {
-            kind: kind.name,
-            file: (kind.file)(*size),
-        })
-    })
+    kinds.flat_map(|kind| SIZES.iter().map(|size| kind.input(*size)))
 }
+
+/// The largest file of each kind.
+pub fn largest() -> impl Iterator<Item = Input> {
+    KINDS.iter().map(Kind::largest)
+}
+
+/// The largest file of the kind that is named.
+pub fn largest_of(name: &str) -> Option<Input> {
+    KINDS
+        .iter()
+        .find(|kind| kind.name == name)
+        .map(Kind::largest)
+}
+
+/// The kind whose page is its file's one text as it stands.
+pub const LONG_TEXT: &str = "one long text";
 
 /// A kind of file, with a file of it that is about as long as asked for and not longer.
 struct Kind {
     name: &'static str,
     file: fn(usize) -> Vec<u8>,
+}
+
+impl Kind {
+    fn input(&self, size: usize) -> Input {
+        Input {
+            kind: self.name,
+            file: (self.file)(size),
+        }
+    }
+
+    fn largest(&self) -> Input {
+        self.input(LONGEST_FILE)
+    }
 }
 
 const KINDS: [Kind; 6] = [
@@ -41,7 +65,7 @@ const KINDS: [Kind; 6] = [
         file: |size| of_pieces(size, generate::small_fields),
     },
     Kind {
-        name: "one long text",
+        name: LONG_TEXT,
         file: long_text,
     },
     Kind {

@@ -1,6 +1,6 @@
 //! Memory: the heap by an allocator that counts, the stack by painting it.
 
-use crate::inputs::{self, SIZES};
+use crate::inputs;
 use crate::stack;
 use crate::timing::{Bench, Entry, Job};
 use std::alloc::{GlobalAlloc, Layout, System};
@@ -44,8 +44,7 @@ pub struct Taken {
 
 /// The largest file of each kind.
 pub fn rows() -> Vec<Taken> {
-    let largest = inputs::all().skip(SIZES.len() - 1).step_by(SIZES.len());
-    let taken = largest.map(|input| {
+    let taken = inputs::largest().map(|input| {
         let length = input.file.len();
         let mut bench = Bench::new(input.file);
         Taken {

@@ -1,7 +1,9 @@
 //! The tables, as text.
 
+use crate::inputs::LONG_TEXT;
 use crate::memory::Taken;
 use crate::timing::{Entry, Job, Row};
+use crate::{counts, memcpy};
 
 /// How many times ours the Rust takes.
 pub fn ratio(row: &Row, rust: Job, ours: Job) -> f64 {
@@ -24,6 +26,55 @@ pub fn times(rows: &[Row]) -> String {
         out += &format!(
             "| {} | {} | {plain:.2} | {plain_of_tree:.2} | {html:.2} | {html_of_tree:.2} | {check:.2} |\n",
             row.kind, row.length
+        );
+    }
+    out
+}
+
+/// How far the times' ratios move from round to round.
+pub fn quartiles(rows: &[Row]) -> String {
+    let mut out = String::from(
+        "\nThe Rust's time over ours in the same round: median (lower to upper quartile)\n\n\
+         | Files | Bytes | Plain page, from bytes | HTML, from bytes |\n|---|---|---|---|\n",
+    );
+    for row in rows {
+        let plain = row.ratios(Job::RustPlain, Job::OursPlain);
+        let html = row.ratios(Job::RustHtml, Job::OursHtml);
+        out += &format!("| {} | {} | {plain} | {html} |\n", row.kind, row.length);
+    }
+    out
+}
+
+/// One long text beside one copy of its page.
+pub fn memcpy(rows: &[memcpy::Row]) -> String {
+    let mut out = format!(
+        "\nOur time for {LONG_TEXT} over that of one memcpy of its page in the same round: median (lower to upper quartile)\n\n\
+         | Bytes | Bytes of the page | Plain page, from bytes |\n|---|---|---|\n",
+    );
+    for row in rows {
+        out += &format!("| {} | {} | {} |\n", row.length, row.page, row.over_copy);
+    }
+    out
+}
+
+/// The instructions of each call, or why they were not counted.
+pub fn counts(rows: &Result<Vec<counts::Row>, String>) -> String {
+    let rows = match rows {
+        Ok(rows) => rows,
+        Err(why) => return format!("\nInstructions: not counted ({why})\n"),
+    };
+    let mut out = String::from(
+        "\nInstructions of one call, counted by callgrind: the file check, which the Rust has not; layout and plain page, and the HTML document, from bytes\n\n\
+         | Files | Bytes | Ours: check | Ours: plain page | The Rust: plain page | Ours: HTML | The Rust: HTML |\n\
+         |---|---|---|---|---|---|---|\n",
+    );
+    for row in rows {
+        let counts = row.counts.map(|count| count.to_string());
+        out += &format!(
+            "| {} | {} | {} |\n",
+            row.kind,
+            row.length,
+            counts.join(" | ")
         );
     }
     out

@@ -1,6 +1,7 @@
 //! The jobs, timed in turn on one file.
 
 use crate::inputs::Input;
+use crate::quartiles::Quartiles;
 use oracle::tree;
 use std::hint::black_box;
 use std::time::{Duration, Instant};
@@ -92,6 +93,14 @@ impl Bench {
         }
     }
 
+    /// The plain page of the file that is laid out.
+    pub fn plain_page(&self) -> Vec<u8> {
+        let mut page = Vec::new();
+        let answer = hazomeny::append_plain_page(&self.laid_out, &mut page);
+        answer.expect("the inputs are accepted");
+        page
+    }
+
     /// How long the job took, once.
     pub fn time(&mut self, job: Job) -> Duration {
         match job {
@@ -136,16 +145,27 @@ impl Bench {
     }
 }
 
-/// A file's median times, in nanoseconds, one for each job.
+/// A file's times, in nanoseconds: of each job one for every round, in the rounds' order.
 pub struct Row {
     pub kind: &'static str,
     pub length: usize,
-    times: [u64; Job::ALL.len()],
+    times: [Vec<f64>; Job::ALL.len()],
 }
 
 impl Row {
+    /// The median.
     pub fn time(&self, job: Job) -> f64 {
-        self.times[job as usize] as f64
+        Quartiles::of(self.of(job)).median
+    }
+
+    /// The Rust's time over ours in the same round.
+    pub fn ratios(&self, rust: Job, ours: Job) -> Quartiles {
+        let rounds = self.of(rust).zip(self.of(ours));
+        Quartiles::of(rounds.map(|(rust, ours)| rust / ours))
+    }
+
+    fn of(&self, job: Job) -> impl Iterator<Item = f64> + '_ {
+        self.times[job as usize].iter().copied()
     }
 }
 
@@ -156,17 +176,12 @@ pub fn row(input: Input, rounds: usize) -> Row {
     let mut times = Job::ALL.map(|_| Vec::with_capacity(rounds));
     for _ in 0..rounds {
         for job in Job::ALL {
-            times[job as usize].push(bench.time(job).as_nanos() as u64);
+            times[job as usize].push(bench.time(job).as_nanos() as f64);
         }
     }
     Row {
         kind: input.kind,
         length,
-        times: times.map(median),
+        times,
     }
-}
-
-fn median(mut times: Vec<u64>) -> u64 {
-    times.sort_unstable();
-    times[times.len() / 2]
 }
