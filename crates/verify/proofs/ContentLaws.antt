@@ -8,6 +8,8 @@ use Rattle.rules.specs.Utf8.{utf8}
 use Rattle.rules.specs.Result.{Result, refused, accepted, _>>_, need, sound}
 use Rattle.rules.specs.Walk.{text-content, anchor-content, content, right-length, right-opacity, right-size}
 use Rattle.rules.proofs.Chains.{no-path}
+use Rattle.looks.specs.Calm.{Calm}
+use Rattle.looks.proofs.CalmBytes.{calm-utf8, calm-lacks}
 use Rattle.utf8.specs.Answer.{sound-if, utf8-answer}
 use Rattle.utf8.specs.declared.Utf8.{Utf8}
 use Rattle.utf8.specs.declared.Utf8.the-variants.{Sound, Broken}
@@ -59,6 +61,16 @@ module _ {s : List ℕ} {place from to : ℕ} (P : Part s place from to) {u : Ut
       pub sound-name : b ≡ false → x ≡ accepted tt → x ≡ sound (anchor-content (slice from to s)) place
       unfolding sound need _>>_ anchor-content
       sound-name z q = simp (is-sound w, quote f, z) q
+
+-- calm bytes
+module _ {s : List ℕ} {place from to : ℕ} (P : Part s place from to) {odd : ℕ} (C : Calm odd s from to) {x : Result (Unit {0})} where
+  pub calm-text : x ≡ accepted tt → x ≡ sound (text-content (slice from to s)) place
+  unfolding sound need _>>_ text-content
+  calm-text q = simp (calm-utf8 (P .ends) (P .rising) C) q
+
+pub calm-name : {s : List ℕ} {place from to : ℕ} → Part s place from to → Calm 34 s from to → {x : Result (Unit {0})} → x ≡ accepted tt → x ≡ sound (anchor-content (slice from to s)) place
+unfolding sound need _>>_ anchor-content
+calm-name P C q = simp (calm-utf8 (P .ends) (P .rising) C, calm-lacks (P .ends) (P .rising) C) q
 
 -- ---- numbers
 

@@ -1,4 +1,5 @@
 // What holds no blocks: the fields of a 16, of a text and of an anchor. They stand from `from` to `end`, and the field that holds them at `place`.
+use crate::content::NONE;
 use crate::content::check_name;
 use crate::content::check_text;
 use crate::front::no_field;
@@ -14,14 +15,17 @@ use crate::verdict::Verdict;
 use crate::verdict::fault;
 use fields::Field;
 use fields::field_in;
+use looks::calm;
 ghost use mathlib.Core.Path.{_≡_};
 ghost use mathlib.Core.List.{List, []};
-ghost use Prim.Native.Nat.{ℕ, _<_};
+ghost use Prim.Native.Nat.{ℕ, _+_, _<_};
 ghost use lib.ListN.{getD};
 ghost use lib.Seq.{slice};
+ghost use Rattle.rules.specs.Result.{accepted};
 ghost use Rattle.rules.specs.Walk.{in-text, in-anchor, in-styles};
+ghost use Rattle.looks.specs.Calm.{Says};
 ghost use Rattle.verify.specs.Said.{verdict};
-ghost use Rattle.verify.specs.Walked.{RestSaid, Part, TextLeft, Named};
+ghost use Rattle.verify.specs.Walked.{RestSaid, ValueSaid, Part, TextLeft, Named};
 
 // The fields of a 16.
 fn check_styles(s: &[u8], from: usize, end: usize, place: usize) -> Verdict
@@ -145,4 +149,34 @@ pub fn check_anchor_fields(s: &[u8], from: usize, end: usize, place: usize) -> V
         return said;
     }
     check_runs(s, to, end, place)
+}
+
+// A text of one short 17 in ASCII, as most are; `false` says nothing. The node of the tag stands from `at` to `to`.
+pub fn is_quick(s: &[u8], at: usize, to: usize, tag: u8) -> bool
+    requires { ⌜ Part (now s) at (at + 3) to ⌝ }
+    ensures { λ r. ⌜ Says r ((d : ℕ) → ValueSaid tag d at (slice (at + 3) to (now (s .entry))) (accepted tt)) ⌝ }
+{
+    if tag != 1 {
+        return false;
+    }
+    let from = at + 3;
+    if from == to {
+        return false;
+    }
+    if s[from] != 17 {
+        return false;
+    }
+    let f = field_in(s, from, to);
+    let Field::Whole {
+        tag: t,
+        from: v,
+        to: e,
+    } = f
+    else {
+        return false;
+    };
+    if e != to {
+        return false;
+    }
+    calm(s, v, e, NONE)
 }

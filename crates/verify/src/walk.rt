@@ -3,6 +3,7 @@ use crate::content::check_text;
 use crate::front::no_field;
 use crate::inner::check_anchor_fields;
 use crate::inner::check_text_fields;
+use crate::inner::is_quick;
 use crate::tables::in_fragment;
 use crate::tables::is_block;
 use crate::verdict::SOUND;
@@ -51,6 +52,9 @@ fn check_node(s: &[u8], at: usize, to: usize, tag: u8, depth: usize) -> Verdict
     requires { ⌜ Node (now s) tag at to ⌝ }
     ensures { λ r. ⌜ ValueSaid tag depth at (slice (at + 3) to (now (s .entry))) (verdict r) ⌝ }
 {
+    if is_quick(s, at, to, tag) {
+        return SOUND;
+    }
     if !is_block(tag) {
         return check_leaf(s, at, to, tag);
     }

@@ -24,6 +24,7 @@ use Rattle.fields.proofs.field_in.Reads as field-in
 use Rattle.verify.proofs.front.no_field.Reads as no-field-reads
 use Rattle.verify.proofs.verdict.fault.Reads as fault-reads
 use Rattle.verify.proofs.tables.in_fragment.Reads as in-fragment-reads
+use Rattle.verify.proofs.inner.is_quick.Reads as is-quick
 use Rattle.verify.proofs.tables.is_block.Reads as is-block
 use Rattle.verify.proofs.walk.check_leaf.Reads as check-leaf
 use Rattle.verify.proofs.walk.+check_block+check_fragment+check_node.{statement}
@@ -79,11 +80,11 @@ pub +check-block+check-fragment+check-node-spec : {M : Type 1} → statement M
     (λ c. let w = c .before .before .before .before .before in let g = w .before .before in let l = g .before .before .loop in let P = l .inv .1 .part in let A = field-there P (g .field-in .ensures) (w .f .given .1) in let h = in-the-part P A in let r = rising A in let q = begins A in let f = l .inv .0 in let a = sym (c .before .before .before .in-fragment2 .ensures ∙ node-next _ _) ∙ not-false _ (c .before .before .if1 .left) in
     (omega (arith, f, r, q), come-on (l .inv .1) A a (rw (begins A, sound-said (c .if2 .left)) at (c .before .check-node .ensures)) tt))
     (λ c. unfold verdict in come-last (c .before .loop .inv .1) (c .loop-test .left) (whole-fragment _ _ refl)))
-    λ t. check-node-lts.spec (is-block.Asked, is-block.Learnt, check-leaf.Asked, check-leaf.Learnt, fault-reads.Asked, fault-reads.Learnt, below 1 check-block-kinds.ps μ-block check-block.Pre t, check-block.Post)
-    (at 1 check-node-kinds.ps μ-node check-node.Pre t) check-node.Post (λ c κs. search needs)
-    (λ c κs. record { node = c .before .before .before .pre .1; no-block = sym (c .before .is-block .ensures) ∙ not-true _ (c .if1 .taken) }) (λ c. c .check-leaf .ensures _)
-    (λ c κs. let P = c .before .before .before .before .pre .1 .value in (omega arith, (omega arith, omega (arith, P .behind, small-place P))))
-    (λ c. deep-value _ _ _ (sym (c .before .before .before .is-block .ensures) ∙ not-false _ (c .before .before .if1 .left)) (omega arith) (c .fault .ensures))
-    (λ c. let P = c .before .before .before .before .pre .1 .value in record { fits = omega (arith, P .rising, P .ends, P .small) }) (λ c. search needs)
-    (λ c κs. let P = c .before .before .before .before .pre .1 .value in (omega (arith, c .before .before .before .before .pre .0, P .rising), part-anywhere P))
-    (λ c. block-value _ _ _ refl (sym (c .before .before .before .is-block .ensures) ∙ not-false _ (c .before .before .if1 .left)) (omega arith) (c .check-block .ensures))
+    λ t. check-node-lts.spec (is-quick.Asked, is-quick.Learnt, is-block.Asked, is-block.Learnt, check-leaf.Asked, check-leaf.Learnt, fault-reads.Asked, fault-reads.Learnt, below 1 check-block-kinds.ps μ-block check-block.Pre t, check-block.Post)
+    (at 1 check-node-kinds.ps μ-node check-node.Pre t) check-node.Post (λ c κs. c .before .pre .1 .value) (λ c. unfold verdict in c .before .is-quick .ensures .says (c .if1 .taken) _) (λ c κs. search needs)
+    (λ c κs. record { node = c .before .before .before .before .before .pre .1; no-block = sym (c .before .is-block .ensures) ∙ not-true _ (c .if2 .taken) }) (λ c. c .check-leaf .ensures _)
+    (λ c κs. let P = c .before .before .before .before .before .before .pre .1 .value in (omega arith, (omega arith, omega (arith, P .behind, small-place P))))
+    (λ c. deep-value _ _ _ (sym (c .before .before .before .is-block .ensures) ∙ not-false _ (c .before .before .if2 .left)) (omega arith) (c .fault .ensures))
+    (λ c. let P = c .before .before .before .before .before .before .pre .1 .value in record { fits = omega (arith, P .rising, P .ends, P .small) }) (λ c. search needs)
+    (λ c κs. let P = c .before .before .before .before .before .before .pre .1 .value in (omega (arith, c .before .before .before .before .before .before .pre .0, P .rising), part-anywhere P))
+    (λ c. block-value _ _ _ refl (sym (c .before .before .before .is-block .ensures) ∙ not-false _ (c .before .before .if2 .left)) (omega arith) (c .check-block .ensures))
