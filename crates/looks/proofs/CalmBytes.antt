@@ -1,5 +1,5 @@
 -- Calm bytes are UTF-8, and lack the byte that was asked for.
-use Rattle.rules.proofs.Basics.{_≡_, refl, sym, _∙_, ap, List, [], _∷_, some, true, false, _||_, ℕ, zero, suc, _+_, _-_, _≤_, _<_, arith, length, getD, eqb, ne-eqb, le-leb}
+use Rattle.rules.proofs.Basics.{_≡_, sym, List, [], some, true, false, ℕ, zero, suc, _+_, _-_, _≤_, _<_, arith, length, getD, ne-eqb, le-leb}
 use lib.Seq.{slice, slice-empty, slice-cons}
 use Rattle.rules.specs.Bytes.{has}
 use Rattle.rules.specs.Utf8.{following, utf8, utf8-after}

@@ -5,12 +5,10 @@ use Rattle.rules.specs.Result.{Result, refused, accepted, _>>=_, _>>_, need, so
 use Rattle.rules.specs.Walk.{Holder, complete, allowed}
 use Rattle.fields.specs.FieldAt.{field-at, length-at}
 use Rattle.fields.specs.declared.Field.{Field}
-use Rattle.fields.specs.declared.Field.the-variants.{Whole, Past, Cut}
+use Rattle.fields.specs.declared.Field.the-variants.{Whole}
 use Rattle.fields.proofs.Laws.{IsWhole, is-whole, NotWhole, whole}
-use Rattle.verify.specs.Said.{done}
 use Rattle.verify.specs.Fronts.{no-field, front-answer}
 use Rattle.verify.specs.Walked.{value-result, rest-result, ValueSaid, RestSaid, Part}
-use Rattle.verify.proofs.TagLaws.{by-test}
 use Rattle.verify.proofs.Parts.{up-to, part-of-part}
 use Rattle.verify.proofs.SaidLaws.{Faulty, stops-chain, stops-there, is-accepted, done-unit}
 use Rattle.verify.proofs.FrontLaws.{value-at, wrong-answer, short-answer, no-field-faulty}

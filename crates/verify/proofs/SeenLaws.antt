@@ -6,7 +6,7 @@ use Rattle.rules.specs.Walk.{in-text, in-anchor, in-styles, complete, allowed}
 use Rattle.verify.specs.declared.seen.Seen.{Seen}
 use Rattle.verify.specs.Seeing.{nothing-seen, seen-with, complete-seen}
 use Rattle.verify.specs.Walked.{TextLeft, Named}
-use Rattle.verify.proofs.TagLaws.{Allowed, anchor-later, name-tag, by-test}
+use Rattle.verify.proofs.TagLaws.{anchor-later, name-tag, by-test}
 
 -- ---- the end of a 16, by the record
 

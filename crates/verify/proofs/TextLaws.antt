@@ -1,5 +1,5 @@
 -- The fields of a text and of an anchor, in the order in which the code reads them.
-use Rattle.rules.proofs.Basics.{_≡_, sym, _∙_, ap, List, [], _∷_, _++_, Bool, true, false, ℕ, _+_, _≤_, _<_, leb, eqb, ne-eqb, eq-eqb, getD}
+use Rattle.rules.proofs.Basics.{_≡_, _∙_, List, [], _∷_, _++_, false, ℕ, _+_, _≤_, _<_, leb, eqb, ne-eqb, eq-eqb, getD}
 use lib.Seq.{slice}
 use Rattle.rules.specs.Result.{Result, refused, accepted, sound}
 use Rattle.rules.specs.Walk.{in-text, in-styles, allowed, text-content}

@@ -9,7 +9,7 @@ use Rattle.rules.proofs.Fuel.{bind-cong, valued-cong, enough}
 use Rattle.fields.specs.FieldAt.{length-at}
 use Rattle.verify.specs.Fronts.{front-answer}
 use Rattle.verify.specs.Walked.{content-result, value-result, rest-result}
-use Rattle.verify.proofs.FrontLaws.{front-of, After, the-field, value-at, value-length, front-by, front-inv, sound-answer}
+use Rattle.verify.proofs.FrontLaws.{front-of, the-field, value-at, value-length, front-by, front-inv, sound-answer}
 
 -- ---- chains
 

@@ -1,5 +1,5 @@
 -- What the check of a value and of the fields in it answers: the rules' walk, as a check.
-use mathlib.Core.List.{List, [], _∷_, _++_}
+use mathlib.Core.List.{List, _++_}
 use mathlib.Core.Path.{_≡_}
 use mathlib.Core.Bool.{true, false, _&&_, _||_, not}
 use Prim.Native.Nat.{ℕ, _+_, _≤_, _<_, _^_}

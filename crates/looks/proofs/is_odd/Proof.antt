@@ -1,5 +1,5 @@
 -- `looks::is_odd` meets its contract.
-use Rattle.rules.proofs.Basics.{refl, false≢true, arith, sym, eqb-false}
+use Rattle.rules.proofs.Basics.{false≢true, arith, sym, eqb-false}
 use Rattle.looks.proofs.is_odd.Statement.{statement}
 use Rattle.looks.proofs.is_odd.Tie as tie
 

@@ -1,5 +1,5 @@
 -- `verify::inner::check_runs` meets its contract: the loop's invariant is `Come`, behind the anchor's name.
-use Rattle.rules.proofs.Basics.{_≡_, refl, sym, _∙_, ⊎-elim, List, ℕ, _-_, arith, eq-eqb, ne-eqb, needs}
+use Rattle.rules.proofs.Basics.{refl, sym, _∙_, ⊎-elim, List, ℕ, _-_, arith, eq-eqb, ne-eqb, needs}
 use lib.Seq.{slice}
 use Rattle.rules.specs.Walk.{in-anchor}
 use Rattle.verify.specs.Said.{verdict}

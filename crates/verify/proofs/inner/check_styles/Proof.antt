@@ -1,5 +1,5 @@
 -- `verify::inner::check_styles` meets its contract: the loop's invariant is `Come`, with the record of the tags so far.
-use Rattle.rules.proofs.Basics.{_≡_, refl, sym, _∙_, ⊎-elim, [], ℕ, _-_, arith, not-true, not-false, needs}
+use Rattle.rules.proofs.Basics.{sym, _∙_, ⊎-elim, [], ℕ, _-_, arith, not-true, not-false, needs}
 use lib.Seq.{slice}
 use Rattle.rules.specs.Walk.{in-styles}
 use Rattle.verify.specs.Walked.{Part, RestSaid}

@@ -1,5 +1,5 @@
 -- `verify::inner::is_quick` meets its contract: one 17 that fills the text, of calm bytes.
-use Rattle.rules.proofs.Basics.{refl, sym, _∙_, [], ⊎-elim, arith, needs}
+use Rattle.rules.proofs.Basics.{refl, sym, _∙_, [], arith, needs}
 use Rattle.looks.proofs.Windows.{says-nothing}
 use Rattle.verify.proofs.ContentLaws.{calm-text}
 use Rattle.verify.proofs.SeenLaws.{no-style}
