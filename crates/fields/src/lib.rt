@@ -1,6 +1,7 @@
 // One house field at a place of a slice: a tag byte, a two-byte length, high byte first, then the value.
 ghost use mathlib.Core.Path.{_≡_};
-ghost use Prim.Native.Nat.{_<_};
+ghost use Prim.Native.Nat.{_<_, _≤_};
+ghost use lib.ListN.{length, take};
 ghost use Rattle.fields.specs.FieldAt.{field-at};
 
 pub enum Field {
@@ -19,18 +20,17 @@ pub fn wide(b: u8) -> usize
     b as usize
 }
 
-pub fn field_at(s: &[u8], at: usize) -> Field
-    ensures { λ r. ⌜ r ≡ field-at (now (s .entry)) at ⌝ }
+// The field at `at`, of what ends at `end`. A place inside the bytes costs less to hand on than a slice of them.
+pub fn field_in(s: &[u8], at: usize, end: usize) -> Field
+    requires { ⌜ (at ≤ end) × (end ≤ length (now s)) ⌝ }
+    ensures { λ r. ⌜ r ≡ field-at (take end (now (s .entry))) at ⌝ }
 {
-    if s.len() < 3 {
+    if end - at < 3 {
         return Field::Cut;
     }
-    if s.len() - 3 < at {
-        return Field::Cut;
-    }
-    let n = wide(s[at + 1]) * 256 + wide(s[at + 2]);
     let from = at + 3;
-    if n <= s.len() - from {
+    let n = wide(s[at + 1]) * 256 + wide(s[at + 2]);
+    if n <= end - from {
         return Field::Whole {
             tag: s[at],
             from,
@@ -38,4 +38,13 @@ pub fn field_at(s: &[u8], at: usize) -> Field
         };
     }
     Field::Past(s[at])
+}
+
+pub fn field_at(s: &[u8], at: usize) -> Field
+    ensures { λ r. ⌜ r ≡ field-at (now (s .entry)) at ⌝ }
+{
+    if s.len() < at {
+        return Field::Cut;
+    }
+    field_in(s, at, s.len())
 }

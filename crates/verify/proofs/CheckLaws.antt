@@ -1,38 +1,59 @@
 -- The whole file: the walk over a fragment, as the file check's answer.
-use Rattle.rules.proofs.Basics.{_≡_, refl, sym, _∙_, ap, List, ℕ, _≤_, _<_, length, le-leb, lt-leb}
-use Rattle.rules.specs.declared.Refusal.{Refusal}
+use Rattle.rules.proofs.Basics.{_≡_, refl, sym, _∙_, ap, List, [], ℕ, _/_, _%_, _≤_, _<_, arith, length, le-leb, lt-leb}
+use lib.Seq.{slice, take-length}
 use Rattle.rules.specs.Limits.{most-bytes}
-use Rattle.rules.specs.Result.{Result, refused, accepted, _>>=_, _>>_, need, sound, refusal}
+use Rattle.rules.specs.Result.{Result, refused, accepted, _>>=_, _>>_, need, sound}
 use Rattle.rules.specs.Walk.{Fields, in-fragment, content, walk, check, complete, tags}
-use Rattle.rules.specs.Tree.{read, frag-of}
+use Rattle.rules.specs.Tree.{Frag, read, frag-of}
 use Rattle.rules.specs.Answers.{itself, tree, check-answer}
-use Rattle.verify.specs.declared.answer.Checked.{Checked}
-use Rattle.verify.specs.declared.answer.Checked.the-variants.{Sound, Faulty}
-use Rattle.verify.specs.Said.{checked}
-use Rattle.verify.specs.Walked.{fields-result, FieldsSaid}
-use Rattle.verify.proofs.SaidLaws.{counted, counted-refusal}
+use Rattle.rules.proofs.Chains.{no-path}
+use Rattle.rules.proofs.Refused.{Refusable, too-long, at-fault, refused-place, Fault}
+use Rattle.verify.specs.Said.{verdict}
+use Rattle.verify.specs.Walked.{rest-result, RestSaid}
+use Rattle.verify.proofs.SaidLaws.{sound-said, as-refused}
 
-pub too-long : (s : List ℕ) → most-bytes < length s → refused 1 0 ≡ check-answer s
+-- a check as an answer that counts nothing
+unfoldable counted : Result (Unit {0}) → Result ℕ
+counted (refused n p) = refused n p
+counted (accepted tt) = accepted 0
+
+pub long-file : (s : List ℕ) → most-bytes < length s → refused 1 0 ≡ check-answer s
 unfolding check-answer tree read check need _>>_ _>>=_
-too-long s h = simp (lt-leb (length s) most-bytes h)
+long-file s h = simp (lt-leb (length s) most-bytes h)
 
 by-walk : (r : Result (Fields ℕ)) → ((r >>= λ i. accepted (frag-of itself i)) >>= λ t. accepted 0) ≡ counted (r >>= λ i. sound (complete in-fragment (tags i)) 0)
 unfolding _>>=_ sound complete counted
 by-walk (refused n p) = refl
 by-walk (accepted i) = refl
 
-in-time : (s : List ℕ) → length s ≤ most-bytes → check-answer s ≡ counted (fields-result in-fragment 0 0 0 s)
-unfolding check-answer tree read check need _>>_ fields-result
+in-time : (s : List ℕ) → length s ≤ most-bytes → check-answer s ≡ counted (rest-result in-fragment [] 0 0 0 0 s)
+unfolding check-answer tree read check need _>>_ rest-result
 in-time s h = simp (le-leb (length s) most-bytes h) (by-walk (walk content itself (length s) in-fragment 0 0 0 s))
 
-module _ (s : List ℕ) (h : length s ≤ most-bytes) {r : Checked} (F : FieldsSaid in-fragment 0 0 0 s r) where
-  by-check : {c : Checked} → r ≡ c → counted (checked c) ≡ check-answer s
-  by-check z = ap counted (sym (ap checked z) ∙ F .is) ∙ sym (in-time s h)
+module _ (s : List ℕ) (h : length s ≤ most-bytes) (r : ℕ) (F : RestSaid in-fragment [] 0 0 0 0 (slice 0 (length s) s) (verdict r)) where
+  by-check : counted (verdict r) ≡ check-answer s
+  by-check = ap counted (F .is ∙ ap (rest-result in-fragment [] 0 0 0 0) (take-length s)) ∙ sym (in-time s h)
 
-  pub sound-file : r ≡ Sound → accepted 0 ≡ check-answer s
-  unfolding checked counted
-  sound-file z = by-check z
+  pub sound-file : r ≡ 0 → accepted 0 ≡ check-answer s
+  unfolding counted
+  sound-file z = sym (ap counted (sound-said z)) ∙ by-check
 
-  pub faulty-file : (x : Refusal) → r ≡ Faulty x → refusal x ≡ check-answer s
-  unfolding checked
-  faulty-file x z = sym (counted-refusal x) ∙ by-check z
+  module _ (n : r ≡ 0 → ⊥) where
+    pub faulty-file : refused (r % 256) (r / 256) ≡ check-answer s
+    unfolding counted
+    faulty-file = sym (ap counted (as-refused r n)) ∙ by-check
+
+    pub faulty-number : Fault (r % 256)
+    unfolding check-answer _>>=_
+    faulty-number = go (tree s) refl
+      where
+        among : {m p : ℕ} → Refusable s m p → Fault m
+        among (too-long x y l) = absurd (omega (arith, l, h))
+        among (at-fault F l m) = F
+
+        go : (x : Result (Frag ℕ)) → tree s ≡ x → Fault (r % 256)
+        go (accepted t) e = let q : _≡_ {A = Result ℕ} (refused (r % 256) (r / 256)) (accepted 0) = faulty-file ∙ ap (λ x. x >>= (λ t. accepted 0)) e in no-path (cc)
+        go (refused m p) e =
+            let q : _≡_ {A = Result ℕ} (refused (r % 256) (r / 256)) (refused m p) = faulty-file ∙ ap (λ x. x >>= (λ t. accepted 0)) e in
+            let k : m ≡ r % 256 = cc in
+            rw k at (among (refused-place s m p e))

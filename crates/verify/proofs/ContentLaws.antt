@@ -1,5 +1,6 @@
 -- The content of a value of bytes, by its tag and by what the tests say.
-use Rattle.rules.proofs.Basics.{_≡_, refl, sym, _∙_, List, Bool, true, false, ℕ, _+_, _*_, _≤_, _<_, arith, leb, length, getD, le-leb, lt-leb, ne-eqb, eq-eqb, eqb-true}
+use Rattle.rules.proofs.Basics.{_≡_, refl, sym, _∙_, List, Bool, true, false, ℕ, _+_, _-_, _*_, _≤_, _<_, arith, leb, length, getD, take, drop, le-leb, lt-leb, ne-eqb, eq-eqb, eqb-true}
+use lib.Seq.{slice}
 use Rattle.rules.proofs.Lengths.{number-one, number-four}
 use Rattle.rules.specs.Limits.{first-style}
 use Rattle.rules.specs.Bytes.{has, number}
@@ -7,10 +8,14 @@ use Rattle.rules.specs.Utf8.{utf8}
 use Rattle.rules.specs.Result.{Result, refused, accepted, _>>_, need, sound}
 use Rattle.rules.specs.Walk.{text-content, anchor-content, content, right-length, right-opacity, right-size}
 use Rattle.rules.proofs.Chains.{no-path}
+use Rattle.looks.specs.Calm.{Calm}
+use Rattle.looks.proofs.CalmBytes.{calm-utf8, calm-lacks}
 use Rattle.utf8.specs.Answer.{sound-if, utf8-answer}
 use Rattle.utf8.specs.declared.Utf8.{Utf8}
 use Rattle.utf8.specs.declared.Utf8.the-variants.{Sound, Broken}
 use Rattle.verify.specs.Contents.{style-verdict}
+use Rattle.verify.specs.Walked.{Part}
+use Rattle.verify.proofs.Parts.{sliced}
 
 -- ---- texts and anchors
 
@@ -22,34 +27,50 @@ if-broken : (b : Bool) → sound-if b ≡ Broken → b ≡ false
 if-broken true e = no-path (cc)
 if-broken false e = refl
 
-module _ (v : List ℕ) (p : ℕ) {u : Utf8} (e : u ≡ utf8-answer v) where
-  is-sound : u ≡ Sound → utf8 v ≡ true
+-- the bytes of a part, as they are lent
+module _ {s : List ℕ} {place from to : ℕ} (P : Part s place from to) {u : Utf8} (e : u ≡ utf8-answer (take (to - from) (drop from s))) where
+  is-sound : u ≡ Sound → utf8 (slice from to s) ≡ true
   unfolding utf8-answer
-  is-sound w = if-sound (utf8 v) (sym e ∙ w)
+  is-sound w = if-sound (utf8 (slice from to s)) (sym (rw (sliced s from to (P .rising)) at e) ∙ w)
 
-  is-broken : u ≡ Broken → utf8 v ≡ false
+  is-broken : u ≡ Broken → utf8 (slice from to s) ≡ false
   unfolding utf8-answer
-  is-broken w = if-broken (utf8 v) (sym e ∙ w)
+  is-broken w = if-broken (utf8 (slice from to s)) (sym (rw (sliced s from to (P .rising)) at e) ∙ w)
 
-  pub broken-text : u ≡ Broken → refused 7 p ≡ sound (text-content v) p
+  quote : {b : Bool} → b ≡ has 34 (take (to - from) (drop from s)) → has 34 (slice from to s) ≡ b
+  quote f = sym (rw (sliced s from to (P .rising)) at f)
+
+  module _ {x : Result (Unit {0})} where
+    pub broken-text : u ≡ Broken → x ≡ refused 7 place → x ≡ sound (text-content (slice from to s)) place
+    unfolding sound need _>>_ text-content
+    broken-text w q = simp (is-broken w) q
+
+    pub sound-text : u ≡ Sound → x ≡ accepted tt → x ≡ sound (text-content (slice from to s)) place
+    unfolding sound need _>>_ text-content
+    sound-text w q = simp (is-sound w) q
+
+    pub broken-name : u ≡ Broken → x ≡ refused 7 place → x ≡ sound (anchor-content (slice from to s)) place
+    unfolding sound need _>>_ anchor-content
+    broken-name w q = simp (is-broken w) q
+
+    module _ (w : u ≡ Sound) {b : Bool} (f : b ≡ has 34 (take (to - from) (drop from s))) where
+      pub quoted-name : b ≡ true → x ≡ refused 9 place → x ≡ sound (anchor-content (slice from to s)) place
+      unfolding sound need _>>_ anchor-content
+      quoted-name z q = simp (is-sound w, quote f, z) q
+
+      pub sound-name : b ≡ false → x ≡ accepted tt → x ≡ sound (anchor-content (slice from to s)) place
+      unfolding sound need _>>_ anchor-content
+      sound-name z q = simp (is-sound w, quote f, z) q
+
+-- calm bytes
+module _ {s : List ℕ} {place from to : ℕ} (P : Part s place from to) {odd : ℕ} (C : Calm odd s from to) {x : Result (Unit {0})} where
+  pub calm-text : x ≡ accepted tt → x ≡ sound (text-content (slice from to s)) place
   unfolding sound need _>>_ text-content
-  broken-text w = simp (is-broken w)
+  calm-text q = simp (calm-utf8 (P .ends) (P .rising) C) q
 
-  pub sound-text : u ≡ Sound → accepted tt ≡ sound (text-content v) p
-  unfolding sound need _>>_ text-content
-  sound-text w = simp (is-sound w)
-
-  pub broken-anchor : u ≡ Broken → refused 7 p ≡ sound (anchor-content v) p
-  unfolding sound need _>>_ anchor-content
-  broken-anchor w = simp (is-broken w)
-
-  pub quoted-anchor : u ≡ Sound → has 34 v ≡ true → refused 9 p ≡ sound (anchor-content v) p
-  unfolding sound need _>>_ anchor-content
-  quoted-anchor w q = simp (is-sound w, q)
-
-  pub sound-anchor : u ≡ Sound → has 34 v ≡ false → accepted tt ≡ sound (anchor-content v) p
-  unfolding sound need _>>_ anchor-content
-  sound-anchor w q = simp (is-sound w, q)
+pub calm-name : {s : List ℕ} {place from to : ℕ} → Part s place from to → Calm 34 s from to → {x : Result (Unit {0})} → x ≡ accepted tt → x ≡ sound (anchor-content (slice from to s)) place
+unfolding sound need _>>_ anchor-content
+calm-name P C q = simp (calm-utf8 (P .ends) (P .rising) C, calm-lacks (P .ends) (P .rising) C) q
 
 -- ---- numbers
 

@@ -1,57 +1,75 @@
--- Checks and results: a refusal is not a sound check, and a chain whose first step is refused.
-use Rattle.rules.proofs.Basics.{_≡_, refl, sym, _∙_, ap, ℕ}
-use Rattle.rules.specs.declared.Refusal.{Refusal}
-use Rattle.rules.specs.declared.Refusal.the-variants.{TooLong, TooWide, Cut, WrongTag, WrongLength, TooDeep, NotUtf8, BadStyle, QuoteInAnchor, PageTooShort}
-use Rattle.rules.specs.declared.Answer.the-variants.{Done, Refused}
-use Rattle.rules.specs.Result.{Result, refused, accepted, _>>=_, _>>_, refusal, said}
+-- Verdicts and results: what a number says, and chains whose first step is refused.
+use Rattle.rules.proofs.Basics.{_≡_, refl, sym, _∙_, ap, ap₂, ℕ, zero, suc, _+_, _*_, _/_, _%_, _<_, arith}
+use Rattle.rules.specs.Result.{Result, refused, accepted, _>>=_, _>>_}
 use Rattle.rules.proofs.Chains.{no-path}
-use Rattle.rules.proofs.Unique.{said-unique}
-use Rattle.verify.specs.declared.answer.Checked.{Checked}
-use Rattle.verify.specs.declared.answer.Checked.the-variants.{Sound, Faulty}
-use Rattle.verify.specs.Said.{checked, done}
+use Rattle.verify.specs.declared.style.Styled.{Styled}
+use Rattle.verify.specs.declared.style.Styled.the-variants.{Right, WrongLength, BadStyle}
+use Rattle.verify.specs.Said.{verdict, styled, done}
 
--- ---- a check as an answer that counts nothing
+-- ---- verdicts
 
-unfoldable pub counted : Result (Unit {0}) → Result ℕ
-counted (refused n p) = refused n p
-counted (accepted tt) = accepted 0
+pub fault-said : (n p : ℕ) → 0 < n → n < 256 → verdict (p * 256 + n) ≡ refused n p
+unfolding verdict
+fault-said n p l h = go (p * 256 + n) refl
+  where
+    go : (k : ℕ) → p * 256 + n ≡ k → verdict k ≡ refused n p
+    go zero e = absurd (omega (arith, e))
+    go (suc k) e =
+        let a : suc k % 256 ≡ n = omega (arith, e) in
+        let b : suc k / 256 ≡ p = omega (arith, e) in
+        ap₂ refused a b
 
-pub counted-refusal : (x : Refusal) → counted (refusal x) ≡ refusal x
-unfolding counted refusal
-counted-refusal TooLong = refl
-counted-refusal TooWide = refl
-counted-refusal (Cut p) = refl
-counted-refusal (WrongTag p) = refl
-counted-refusal (WrongLength p) = refl
-counted-refusal (TooDeep p) = refl
-counted-refusal (NotUtf8 p) = refl
-counted-refusal (BadStyle p) = refl
-counted-refusal (QuoteInAnchor p) = refl
-counted-refusal (PageTooShort p) = refl
+-- something is wrong
+pub record Faulty (x : Result (Unit {0})) : Type 0 where
+  pub number : ℕ
+  pub place : ℕ
+  pub is : x ≡ refused number place
+
+pub sound-said : {r : ℕ} → r ≡ 0 → verdict r ≡ accepted tt
+unfolding verdict
+sound-said e = ap verdict e
+
+pub as-refused : (r : ℕ) → (r ≡ 0 → ⊥) → verdict r ≡ refused (r % 256) (r / 256)
+unfolding verdict
+as-refused zero n = absurd (n refl)
+as-refused (suc r) n = refl
+
+pub faulty-said : {r : ℕ} → (r ≡ 0 → ⊥) → Faulty (verdict r)
+faulty-said {r} n = record { number = r % 256; place = r / 256; is = as-refused r n }
+
+pub not-right : (c : Styled) → (c ≡ Right → ⊥) → (p : ℕ) → Faulty (styled c p)
+unfolding styled
+not-right Right n p = absurd (n refl)
+not-right WrongLength n p = record { number = 5; place = p; is = refl }
+not-right BadStyle n p = record { number = 8; place = p; is = refl }
+
+pub right-said : {c : Styled} → c ≡ Right → (p : ℕ) → accepted tt ≡ styled c p
+unfolding styled
+right-said e p = rw e
+
+pub numbered : {x : Result ℕ} (k : ℕ) {n p : ℕ} → x ≡ refused k p → k ≡ n → x ≡ refused n p
+numbered k e q = rw q at e
 
 -- ---- chains
 
-module _ {r : Checked} {x : Refusal} where
-  not-sound : checked r ≡ accepted tt → r ≡ Faulty x → ⊥
-  unfolding checked counted said
-  not-sound e z =
-      let q : Refused x ≡ Done 0 = said-unique (Refused x) (Done 0) (sym (counted-refusal x) ∙ ap counted (sym (ap checked z) ∙ e)) in
-      no-path (cc)
+not-both : {x : Result (Unit {0})} {P : Type 0} → Faulty x → x ≡ accepted tt → P
+not-both F e = let q : refused (F .number) (F .place) ≡ accepted tt = sym (F .is) ∙ e in no-path (cc)
 
-  pub stops-chain : {A B : Type 0} (m : Result A) (f : A → Result B) → checked r ≡ done m → r ≡ Faulty x → checked r ≡ done (m >>= f)
-  unfolding done _>>=_
-  stops-chain (refused n p) f e z = e
-  stops-chain (accepted a) f e z = absurd (not-sound e z)
+pub stops-chain : {A B : Type 0} (m : Result A) (f : A → Result B) {x : Result (Unit {0})} → x ≡ done m → Faulty x → x ≡ done (m >>= f)
+unfolding done _>>=_
+stops-chain (refused n p) f e F = e
+stops-chain (accepted a) f e F = not-both F e
 
-  pub stops-then : {B : Type 0} (m : Result (Unit {0})) (y : Result B) → checked r ≡ m → r ≡ Faulty x → checked r ≡ done (m >> y)
-  unfolding done _>>_
-  stops-then (refused n p) y e z = e
-  stops-then (accepted tt) y e z = absurd (not-sound e z)
+-- behind a step that is refused nothing is asked
+pub stops-there : (m y : Result (Unit {0})) → Faulty m → (m >> y) ≡ m
+unfolding _>>_
+stops-there (refused n p) y F = refl
+stops-there (accepted tt) y F = not-both F refl
 
-pub is-accepted : {A : Type 0} (m : Result A) {r : Checked} → checked r ≡ done m → r ≡ Sound → (a : A) × (m ≡ accepted a)
-unfolding checked done
-is-accepted (refused n p) e z = let q : refused n p ≡ accepted tt = sym e ∙ ap checked z in no-path (cc)
-is-accepted (accepted a) e z = (a, refl)
+pub is-accepted : {A : Type 0} (m : Result A) → accepted tt ≡ done m → (a : A) × (m ≡ accepted a)
+unfolding done
+is-accepted (refused n p) e = no-path (cc)
+is-accepted (accepted a) e = (a, refl)
 
 -- ---- what an accepted value is does not matter
 

@@ -1,11 +1,12 @@
--- What the last tag, or the record of those of a 16, says of the tags so far; and what is wrong at the end by it.
-use Rattle.rules.proofs.Basics.{_≡_, refl, sym, _∙_, ap, List, [], _∷_, _++_, Bool, true, false, _&&_, _||_, not, ℕ, eqb, ne-eqb, eqb-true, eqb-false}
+-- What the tags so far say of a text, of an anchor and of a 16, and what is wrong at the end by it.
+use Rattle.rules.proofs.Basics.{_≡_, refl, sym, _∙_, ap, List, [], _∷_, _++_, Bool, true, false, _&&_, _||_, not, or-true, ℕ, _<_, arith, eqb, getD, ne-eqb, eqb-true, eqb-false}
 use Rattle.rules.specs.Bytes.{has}
-use Rattle.rules.specs.Result.{refused, accepted, _>>_, need, _or-refuse_, sound}
-use Rattle.rules.specs.Walk.{in-text, in-anchor, in-styles, complete}
+use Rattle.rules.specs.Result.{Result, refused, accepted, _>>_, need, Check, _or-refuse_, sound}
+use Rattle.rules.specs.Walk.{in-text, in-anchor, in-styles, complete, allowed}
 use Rattle.verify.specs.declared.seen.Seen.{Seen}
 use Rattle.verify.specs.Seeing.{nothing-seen, seen-with, complete-seen}
-use Rattle.verify.proofs.TagLaws.{Allowed, no-second-text, later-tag, name-tag, by-test}
+use Rattle.verify.specs.Walked.{TextLeft, Named}
+use Rattle.verify.proofs.TagLaws.{anchor-later, name-tag, by-test}
 
 -- ---- the end of a 16, by the record
 
@@ -37,10 +38,6 @@ has-last n t (x ∷ ts) = ap (λ (b : Bool). eqb n x || b) (has-last n t ts) ∙
     or-assoc true b c = refl
     or-assoc false b c = refl
 
--- nothing is asked of the tags
-abbrev pub Any : List ℕ → Type 0
-Any ts = Unit {0}
-
 -- in a 16: the record says of the tags what it has to
 pub record Sees (s : Seen) (ts : List ℕ) : Type 0 where
   pub sees-colour : s .colour ≡ has 32 ts
@@ -69,63 +66,72 @@ pub sees-all : {s : Seen} {ts : List ℕ} → Sees s ts → complete-seen s ≡ 
 unfolding complete-seen complete
 sees-all S = λ i. not (S .sees-opacity i && not (S .sees-colour i)) or-refuse 8 ∷ not (S .sees-subscript i && S .sees-superscript i) or-refuse 8 ∷ []
 
--- in a text: a 17 was seen if the last is one, since nothing comes after it
-pub record EndsText (before : ℕ) (ts : List ℕ) : Type 0 where
-  pub says : has 17 ts ≡ eqb 17 before
+-- the record of the tags so far, the last of which is before
+pub record SeenBy (s : Seen) (before : ℕ) (ts : List ℕ) : Type 0 where
+  pub last : before ≡ s .before
+  pub sees : Sees s ts
 
-pub no-text : EndsText 0 []
+pub seen-first : {s : Seen} → s ≡ nothing-seen → SeenBy s 0 []
+unfolding nothing-seen
+seen-first e = rw e (record { last = refl; sees = sees-none })
+
+pub seen-more : {s s′ : Seen} {t before : ℕ} {ts : List ℕ} → SeenBy s before ts → s′ ≡ seen-with s t → SeenBy s′ t (ts ++ (t ∷ []))
+unfolding seen-with
+seen-more {t = t} S e = rw e (record { last = refl; sees = sees-more t (S .sees) })
+
+pub seen-all : {s : Seen} {before : ℕ} {ts : List ℕ} (p : ℕ) {x : Result (Unit {0})} → SeenBy s before ts → x ≡ sound (complete-seen s) p → x ≡ sound (complete in-styles ts) p
+seen-all p S e = e ∙ ap (λ (cs : List Check). sound cs p) (sees-all (S .sees))
+
+-- ---- a text: an optional 16, then one 17
+
+pub no-style : {s : List ℕ} {at end : ℕ} → (at < end → getD s at 0 ≡ 16 → ⊥) → TextLeft 0 [] s at end
+unfolding has allowed
+no-style {s} {at} n = record { none-yet = refl; one-wanted = λ l. simp (ne-eqb (getD s at 0) 16 (n l)) }
+
+pub a-style : (s : List ℕ) (at end : ℕ) → TextLeft 16 ([] ++ (16 ∷ [])) s at end
+unfolding has allowed
+a-style s at end = record { none-yet = refl; one-wanted = λ l. refl }
+
+pub first-style-allowed : allowed in-text 0 16 ≡ true
+unfolding allowed
+first-style-allowed = refl
+
+pub nothing-more : (t : ℕ) → allowed in-text 17 t ≡ false
+unfolding allowed
+nothing-more t = refl
+
+pub no-text : (ts : List ℕ) (p : ℕ) {x : Result (Unit {0})} → has 17 ts ≡ false → x ≡ refused 5 p → x ≡ sound (complete in-text ts) p
+unfolding sound need _>>_ complete
+no-text ts p e q = simp e q
+
+pub whole-text : (ts : List ℕ) (p : ℕ) {x : Result (Unit {0})} → x ≡ accepted tt → x ≡ sound (complete in-text (ts ++ (17 ∷ []))) p
+unfolding sound need _>>_ complete
+whole-text ts p q = simp (has-last 17 17 ts, or-true (has 17 ts)) q
+
+-- ---- an anchor: its name, then texts
+
+pub no-name : (p : ℕ) {x : Result (Unit {0})} → x ≡ refused 5 p → x ≡ sound (complete in-anchor []) p
+unfolding sound need _>>_ complete has
+no-name p q = q
+
+pub is-named : {t : ℕ} → allowed in-anchor 0 t ≡ true → Named t ([] ++ (t ∷ []))
 unfolding has
-no-text = record { says = refl }
+is-named {t} a = by-test (eqb t 18) (λ q. rw (eqb-true t 18 q) (record { not-first = λ e. omega (arith, e); named = refl }))
+    (λ q. rw (name-tag {before = 0} (record { yes = a }) refl (eqb-false t 18 q)) (record { not-first = λ e. omega (arith, e); named = refl }))
 
-pub text-more : {before t : ℕ} {ts : List ℕ} → EndsText before ts → Allowed in-text before t → EndsText t (ts ++ (t ∷ []))
-text-more {before} {t} {ts} E A =
-    let none : eqb 17 before ≡ false = ne-eqb 17 before (λ (q : 17 ≡ before). no-second-text A (sym q)) in
-    record { says = has-last 17 t ts ∙ ap (λ (b : Bool). b || eqb 17 t) (E .says ∙ none) }
+module _ {before : ℕ} {ts : List ℕ} (N : Named before ts) where
+  pub named-next : (t : ℕ) → eqb t 1 ≡ allowed in-anchor before t
+  named-next t = anchor-later t before (N .not-first)
 
-module _ {before : ℕ} {ts : List ℕ} (E : EndsText before ts) (p : ℕ) where
-  pub text-ends : before ≡ 17 → accepted tt ≡ sound (complete in-text ts) p
+  pub named-more : {t : ℕ} → t ≡ 1 → Named t (ts ++ (t ∷ []))
+  named-more {t} e =
+      rw e (record { not-first = λ q. omega (arith, q); named = rw (has-last 18 1 ts, has-last 19 1 ts) (still (has 18 ts) (has 19 ts) (N .named)) })
+    where
+      still : (a b : Bool) → (a || b) ≡ true → ((a || false) || (b || false)) ≡ true
+      still true b q = refl
+      still false true q = refl
+      still false false q = q
+
+  pub whole-anchor : (p : ℕ) {x : Result (Unit {0})} → x ≡ accepted tt → x ≡ sound (complete in-anchor ts) p
   unfolding sound need _>>_ complete
-  text-ends e = simp (E .says, e)
-
-  pub text-lacks : (before ≡ 17 → ⊥) → refused 5 p ≡ sound (complete in-text ts) p
-  unfolding sound need _>>_ complete
-  text-lacks n = simp (E .says, ne-eqb 17 before (λ (q : 17 ≡ before). n (sym q)))
-
--- in an anchor: a name was seen unless nothing was, since it comes first
-pub record HasName (before : ℕ) (ts : List ℕ) : Type 0 where
-  pub says : (has 18 ts || has 19 ts) ≡ not (eqb before 0)
-
-pub no-name : HasName 0 []
-unfolding has
-no-name = record { says = refl }
-
-both-last : (a b c d : Bool) → ((a || c) || (b || d)) ≡ ((a || b) || (c || d))
-both-last true b c d = refl
-both-last false true true d = refl
-both-last false true false d = refl
-both-last false false true d = refl
-both-last false false false d = refl
-
-pub name-more : {before t : ℕ} {ts : List ℕ} → HasName before ts → Allowed in-anchor before t → HasName t (ts ++ (t ∷ []))
-name-more {before} {t} {ts} E A =
-    record {
-      says =
-          (λ i. has-last 18 t ts i || has-last 19 t ts i) ∙ both-last (has 18 ts) (has 19 ts) (eqb 18 t) (eqb 19 t)
-          ∙ ap (λ (b : Bool). b || (eqb 18 t || eqb 19 t)) (E .says) ∙ by-test (eqb before 0) first later;
-    }
-  where
-    first : eqb before 0 ≡ true → (not (eqb before 0) || (eqb 18 t || eqb 19 t)) ≡ not (eqb t 0)
-    first q =
-        by-test (eqb t 18) (λ x. rw (q, eqb-true t 18 x)) (λ x. rw (q, name-tag A (eqb-true before 0 q) (eqb-false t 18 x)))
-
-    later : eqb before 0 ≡ false → (not (eqb before 0) || (eqb 18 t || eqb 19 t)) ≡ not (eqb t 0)
-    later q = rw (q, later-tag A (eqb-false before 0 q))
-
-module _ {before : ℕ} {ts : List ℕ} (E : HasName before ts) (p : ℕ) where
-  pub name-lacks : before ≡ 0 → refused 5 p ≡ sound (complete in-anchor ts) p
-  unfolding sound need _>>_ complete
-  name-lacks e = simp (E .says, e)
-
-  pub name-there : (before ≡ 0 → ⊥) → accepted tt ≡ sound (complete in-anchor ts) p
-  unfolding sound need _>>_ complete
-  name-there n = simp (E .says, ne-eqb before 0 n)
+  whole-anchor p q = simp (N .named) q

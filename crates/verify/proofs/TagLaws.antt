@@ -2,25 +2,8 @@
 use Rattle.rules.proofs.Basics.{_≡_, refl, sym, _∙_, Bool, true, false, _&&_, _||_, ℕ, _≤_, _<_, arith, leb, ltb, eqb, le-leb, lt-leb, ne-eqb, eq-eqb, leb-true, eqb-true, eqb-false}
 use Rattle.rules.specs.Limits.{first-style, last-style}
 use Rattle.rules.specs.Bytes.{if_then_else_, within}
-use Rattle.rules.specs.Walk.{Holder, allowed, right-length, is-block, in-fragment, in-block, in-text, in-anchor, in-styles}
+use Rattle.rules.specs.Walk.{Holder, allowed, right-length, is-block, in-fragment, in-anchor, in-styles}
 use Rattle.rules.proofs.Chains.{no-path}
-
-first-of : (a b : Bool) → a ≡ ((a && true) || (b && false))
-first-of true b = refl
-first-of false true = refl
-first-of false false = refl
-
-second-of : (a b : Bool) → b ≡ ((a && false) || (b && true))
-second-of true true = refl
-second-of true false = refl
-second-of false true = refl
-second-of false false = refl
-
-neither-of : (a b : Bool) → false ≡ ((a && false) || (b && false))
-neither-of true true = refl
-neither-of true false = refl
-neither-of false true = refl
-neither-of false false = refl
 
 module _ (t : ℕ) where
   pub other-block : (t ≡ 3 → ⊥) → eqb t 4 ≡ is-block t
@@ -37,18 +20,6 @@ module _ (t : ℕ) where
 
   -- a text, an anchor and a 16, after the tag before
   module _ (before : ℕ) where
-    pub text-16 : t ≡ 16 → eqb before 0 ≡ allowed in-text before t
-    unfolding allowed
-    text-16 e = simp (eq-eqb t 16 e, ne-eqb t 17 (λ (z : t ≡ 17). omega arith)) (first-of (eqb before 0) (leb before 16))
-
-    pub text-17 : t ≡ 17 → leb before 16 ≡ allowed in-text before t
-    unfolding allowed
-    text-17 e = simp (ne-eqb t 16 (λ (z : t ≡ 16). omega arith), eq-eqb t 17 e) (second-of (eqb before 0) (leb before 16))
-
-    pub text-other : (t ≡ 16 → ⊥) → (t ≡ 17 → ⊥) → false ≡ allowed in-text before t
-    unfolding allowed
-    text-other a b = simp (ne-eqb t 16 a, ne-eqb t 17 b) (neither-of (eqb before 0) (leb before 16))
-
     pub anchor-later : (before ≡ 0 → ⊥) → eqb t 1 ≡ allowed in-anchor before t
     unfolding allowed
     anchor-later a = simp (ne-eqb before 0 a)
@@ -113,26 +84,12 @@ module _ {before t : ℕ} where
   unfolding allowed
   fragment-tags A = let (a, b) = both-hold (leb 1 t) (leb t 7) (A .yes) in (leb-true 1 t a, leb-true t 7 b)
 
-  pub block-tag : Allowed in-block before t → t ≡ 8
-  unfolding allowed
-  block-tag A = eqb-true t 8 (A .yes)
-
   pub styles-tags : Allowed in-styles before t → (first-style ≤ t) × (t ≤ last-style)
   unfolding allowed
   styles-tags A =
       let (w, r) = both-hold (within first-style last-style t) (ltb before t) (A .yes) in
       let (a, b) = both-hold (leb first-style t) (leb t last-style) w in
       (leb-true first-style t a, leb-true t last-style b)
-
-  pub text-tag : Allowed in-text before t → (t ≡ 16 → ⊥) → t ≡ 17
-  text-tag A n = by-test (eqb t 17) (eqb-true t 17) (λ q. never (sym (A .yes) ∙ sym (text-other t before n (eqb-false t 17 q))))
-
-  pub no-second-text : Allowed in-text before t → before ≡ 17 → ⊥
-  unfolding allowed
-  no-second-text A e = never (sym (rw e at (A .yes)))
-
-  pub later-tag : Allowed in-anchor before t → (before ≡ 0 → ⊥) → t ≡ 1
-  later-tag A n = eqb-true t 1 (anchor-later t before n ∙ A .yes)
 
   pub name-tag : Allowed in-anchor before t → before ≡ 0 → (t ≡ 18 → ⊥) → t ≡ 19
   name-tag A z n = eqb-true t 19 (anchor-19 t before z n ∙ A .yes)

@@ -1,17 +1,15 @@
 -- The value of a field, by its tag: bytes, or fields.
-use Rattle.rules.proofs.Basics.{_≡_, refl, sym, _∙_, ap, List, Bool, true, false, _&&_, none, some, ℕ, suc, _+_, _≤_, _<_, arith, leb, eqb, length, ne-eqb, eq-eqb, eqb-true, eqb-false, le-leb, lt-leb}
+use Rattle.rules.proofs.Basics.{_≡_, refl, sym, _∙_, ap, List, [], Bool, true, false, _&&_, none, some, ℕ, suc, _+_, _≤_, _<_, arith, leb, eqb, length, ne-eqb, eq-eqb, eqb-true, eqb-false, le-leb, lt-leb}
 use Rattle.rules.specs.Limits.{most-blocks, first-style}
-use Rattle.rules.specs.Result.{Result, refused, _>>_, need, sound}
-use Rattle.rules.specs.Walk.{Holder, in-fragment, in-block, in-text, in-anchor, in-styles, of-fields, valued, walk, holds, text-content, anchor-content, content, complete, tags, right-length, is-block}
+use Rattle.rules.specs.Result.{Result, refused, accepted, _>>_, need, sound}
+use Rattle.rules.specs.Walk.{Holder, in-fragment, in-block, in-text, in-anchor, in-styles, of-fields, valued, walk, holds, text-content, anchor-content, content, complete, tags, right-length, is-block, allowed}
 use Rattle.rules.specs.Good.{depth-in}
 use Rattle.rules.specs.Answers.{itself}
 use Rattle.rules.proofs.Accepted.{map-itself}
-use Rattle.verify.specs.declared.answer.Checked.{Checked}
-use Rattle.verify.specs.declared.answer.Checked.the-variants.{Sound}
-use Rattle.verify.specs.Said.{checked, done}
+use Rattle.verify.specs.Said.{done}
 use Rattle.verify.specs.Contents.{style-verdict}
-use Rattle.verify.specs.Walked.{content-result, value-result, fields-result, ValueSaid, FieldsSaid, Leaf}
-use Rattle.verify.proofs.TagLaws.{Allowed, by-test, never, styles-tags, text-tag, later-tag, name-tag, block-tag, fragment-tags}
+use Rattle.verify.specs.Walked.{content-result, value-result, rest-result, ValueSaid, RestSaid, Leaf}
+use Rattle.verify.proofs.TagLaws.{by-test, never, styles-tags, name-tag, fragment-tags}
 use Rattle.verify.proofs.SaidLaws.{done-then, done-each}
 
 -- ---- by what the tag holds
@@ -30,22 +28,22 @@ module _ (d p : ℕ) (v : List ℕ) where
   unfolding value-result need _>>_
   shallow t b = rw b
 
-  module _ {r : Checked} where
-    bytes-at : (t : ℕ) → right-length t (length v) ≡ true → is-block t ≡ false → holds t ≡ none → checked r ≡ sound (content t v) p → ValueSaid t d p v r
+  module _ {x : Result (Unit {0})} where
+    bytes-at : (t : ℕ) → right-length t (length v) ≡ true → is-block t ≡ false → holds t ≡ none → x ≡ sound (content t v) p → ValueSaid t d p v x
     unfolding value-result need _>>_
     bytes-at t l b o e = record { is = rw (l, b) (e ∙ sym (bytes-content t o)) }
 
-    fields-at : (t : ℕ) (h : Holder) → right-length t (length v) ≡ true → (is-block t && leb most-blocks d) ≡ false → holds t ≡ some h → FieldsSaid h (depth-in t d) (p + 3) p v r → ValueSaid t d p v r
-    unfolding value-result need _>>_ content-result valued fields-result
-    fields-at t h l b o F = record { is = F .is ∙ rw (l, b, o) (sym (done-each (walk content itself (length v) h (depth-in t d) 0 (p + 3) v) (λ i. sound (complete h (tags i)) p) of-fields)) }
+    fields-at : (t : ℕ) (h : Holder) → right-length t (length v) ≡ true → (is-block t && leb most-blocks d) ≡ false → holds t ≡ some h → {from : ℕ} → p + 3 ≡ from → RestSaid h [] (depth-in t d) 0 p from v x → ValueSaid t d p v x
+    unfolding value-result need _>>_ content-result valued rest-result
+    fields-at t h l b o g F = record { is = rw (← g) at (F .is) ∙ rw (l, b, o) (sym (done-each (walk content itself (length v) h (depth-in t d) 0 (p + 3) v) (λ i. sound (complete h (tags i)) p) of-fields)) }
 
 -- what holds nodes or fragments asks nothing of its tags together, so that its own place does not matter
-fragment-anywhere : {d base p : ℕ} {v : List ℕ} {r : Checked} → FieldsSaid in-fragment d base 0 v r → FieldsSaid in-fragment d base p v r
-unfolding fields-result complete sound
+fragment-anywhere : {d base p : ℕ} {v : List ℕ} {x : Result (Unit {0})} → RestSaid in-fragment [] d 0 0 base v x → RestSaid in-fragment [] d 0 p base v x
+unfolding rest-result complete sound
 fragment-anywhere F = record { is = F .is }
 
-block-anywhere : {d base p : ℕ} {v : List ℕ} {r : Checked} → FieldsSaid in-block (d + 1) base 0 v r → FieldsSaid in-block (suc d) base p v r
-unfolding fields-result complete sound
+block-anywhere : {d base p : ℕ} {v : List ℕ} {x : Result (Unit {0})} → RestSaid in-block [] (d + 1) 0 0 base v x → RestSaid in-block [] (suc d) 0 p base v x
+unfolding rest-result complete sound
 block-anywhere {d} F = let e : d + 1 ≡ suc d = omega arith in record { is = rw e at (F .is) }
 
 -- ---- by the tag
@@ -58,78 +56,76 @@ no-block-at : (t : ℕ) → is-block t ≡ false → (t ≡ 3 → ⊥) × (t ≡
 unfolding is-block
 no-block-at t b = ((λ (e : t ≡ 3). never (rw e at b)), (λ (e : t ≡ 4). never (rw e at b)))
 
-module _ (d p : ℕ) (v : List ℕ) {t : ℕ} {r : Checked} where
-  pub styles-value : t ≡ 16 → FieldsSaid in-styles d (p + 3) p v r → ValueSaid t d p v r
-  unfolding right-length is-block holds
-  styles-value e F = rw e (fields-at d p v 16 in-styles refl refl refl F)
+module _ (d p : ℕ) (v : List ℕ) {t : ℕ} {x : Result (Unit {0})} where
+  -- a value of fields, which stand from `from` on
+  module _ {from : ℕ} (g : p + 3 ≡ from) where
+    pub styles-value : t ≡ 16 → RestSaid in-styles [] d 0 p from v x → ValueSaid t d p v x
+    unfolding right-length is-block holds
+    styles-value e F = rw e (fields-at d p v 16 in-styles refl refl refl g F)
 
-  pub run-value : t ≡ 1 → FieldsSaid in-text d (p + 3) p v r → ValueSaid t d p v r
-  unfolding right-length is-block holds
-  run-value e F = rw e (fields-at d p v 1 in-text refl refl refl F)
+    pub run-value : t ≡ 1 → RestSaid in-text [] d 0 p from v x → ValueSaid t d p v x
+    unfolding right-length is-block holds
+    run-value e F = rw e (fields-at d p v 1 in-text refl refl refl g F)
 
-  pub anchor-value : t ≡ 2 → FieldsSaid in-anchor d (p + 3) p v r → ValueSaid t d p v r
-  unfolding right-length is-block holds
-  anchor-value e F = rw e (fields-at d p v 2 in-anchor refl refl refl F)
+    pub anchor-value : t ≡ 2 → RestSaid in-anchor [] d 0 p from v x → ValueSaid t d p v x
+    unfolding right-length is-block holds
+    anchor-value e F = rw e (fields-at d p v 2 in-anchor refl refl refl g F)
 
-  pub piece-value : {before : ℕ} → Allowed in-block before t → FieldsSaid in-fragment d (p + 3) 0 v r → ValueSaid t d p v r
-  unfolding right-length is-block holds
-  piece-value A F = rw (block-tag A) (fields-at d p v 8 in-fragment refl refl refl (fragment-anywhere F))
+    pub piece-value : t ≡ 8 → RestSaid in-fragment [] d 0 0 from v x → ValueSaid t d p v x
+    unfolding right-length is-block holds
+    piece-value e F = rw e (fields-at d p v 8 in-fragment refl refl refl g (fragment-anywhere F))
 
-  pub block-value : is-block t ≡ true → d < most-blocks → FieldsSaid in-block (d + 1) (p + 3) 0 v r → ValueSaid t d p v r
-  unfolding right-length is-block holds
-  block-value b h F =
-      let n : leb most-blocks d ≡ false = lt-leb most-blocks d h in
-      is-a-block (λ t. ValueSaid t d p v r) t b (fields-at d p v 3 in-block refl n refl (block-anywhere F)) (fields-at d p v 4 in-block refl n refl (block-anywhere F))
+    pub block-value : is-block t ≡ true → d < most-blocks → RestSaid in-block [] (d + 1) 0 0 from v x → ValueSaid t d p v x
+    unfolding right-length is-block holds
+    block-value b h F =
+        let n : leb most-blocks d ≡ false = lt-leb most-blocks d h in
+        is-a-block (λ t. ValueSaid t d p v x) t b (fields-at d p v 3 in-block refl n refl g (block-anywhere F)) (fields-at d p v 4 in-block refl n refl g (block-anywhere F))
 
-  pub deep-value : is-block t ≡ true → most-blocks ≤ d → checked r ≡ refused 6 p → ValueSaid t d p v r
+  pub deep-value : is-block t ≡ true → most-blocks ≤ d → x ≡ refused 6 p → ValueSaid t d p v x
   unfolding value-result right-length is-block need _>>_ done
   deep-value b h e =
       let n : leb most-blocks d ≡ true = le-leb most-blocks d h in
-      is-a-block (λ t. ValueSaid t d p v r) t b (record { is = rw n e }) (record { is = rw n e })
+      is-a-block (λ t. ValueSaid t d p v x) t b (record { is = rw n e }) (record { is = rw n e })
 
-  pub note-value : t ≡ 7 → checked r ≡ sound (text-content v) p → ValueSaid t d p v r
+  pub note-value : t ≡ 7 → x ≡ sound (text-content v) p → ValueSaid t d p v x
   unfolding right-length is-block holds content text-content
   note-value q e = rw q (bytes-at d p v 7 refl refl refl e)
 
-  pub text-value : {before : ℕ} → Allowed in-text before t → (t ≡ 16 → ⊥) → checked r ≡ sound (text-content v) p → ValueSaid t d p v r
+  pub text-value : t ≡ 17 → x ≡ sound (text-content v) p → ValueSaid t d p v x
   unfolding right-length is-block holds content text-content
-  text-value A n e = rw (text-tag A n) (bytes-at d p v 17 refl refl refl e)
+  text-value q e = rw q (bytes-at d p v 17 refl refl refl e)
 
-  pub name-value : {before : ℕ} → Allowed in-anchor before t → (t ≡ 1 → ⊥) → checked r ≡ sound (anchor-content v) p → ValueSaid t d p v r
+  pub name-value : allowed in-anchor 0 t ≡ true → x ≡ sound (anchor-content v) p → ValueSaid t d p v x
   unfolding right-length is-block holds content anchor-content
-  name-value {before} A n e = by-test (eqb before 0) (λ z. by-test (eqb t 18) as-18 (as-19 z)) (λ z. absurd (n (later-tag A (eqb-false before 0 z))))
-    where
-      as-18 : eqb t 18 ≡ true → ValueSaid t d p v r
-      as-18 q = rw (eqb-true t 18 q) (bytes-at d p v 18 refl refl refl e)
+  name-value a e =
+      by-test (eqb t 18) (λ q. rw (eqb-true t 18 q) (bytes-at d p v 18 refl refl refl e))
+      (λ q. rw (name-tag {before = 0} (record { yes = a }) refl (eqb-false t 18 q)) (bytes-at d p v 19 refl refl refl e))
 
-      as-19 : eqb before 0 ≡ true → eqb t 18 ≡ false → ValueSaid t d p v r
-      as-19 z q = rw (name-tag A (eqb-true before 0 z) (eqb-false t 18 q)) (bytes-at d p v 19 refl refl refl e)
-
-  pub style-value : {before : ℕ} → Allowed in-styles before t → checked r ≡ style-verdict t v p → ValueSaid t d p v r
+  pub style-value : (before : ℕ) → allowed in-styles before t ≡ true → x ≡ style-verdict t v p → ValueSaid t d p v x
   unfolding style-verdict is-block holds
-  style-value A e =
-      let (lo, hi) = styles-tags A in
+  style-value before A e =
+      let (lo, hi) = styles-tags {before = before} (record { yes = A }) in
       let other : (k : ℕ) → k < first-style → eqb t k ≡ false = λ k l. ne-eqb t k (λ (z : t ≡ k). omega arith) in
       let b : is-block t ≡ false = simp (other 3 (omega arith), other 4 (omega arith)) in
       let o : holds t ≡ none = simp (other 1 (omega arith), other 2 (omega arith), other 3 (omega arith), other 4 (omega arith), other 8 (omega arith), other 16 (omega arith)) in
       record { is = e ∙ sym (ap done (shallow d p v t b) ∙ after-need _ 5 p _ _ (bytes-content d p v t o)) }
 
 -- 5 and 6
-module _ {t base p : ℕ} {v : List ℕ} (L : Leaf t base p v) (a : t ≡ 1 → ⊥) (b : t ≡ 2 → ⊥) (c : t ≡ 7 → ⊥) where
+module _ {s : List ℕ} {t at to : ℕ} (L : Leaf s t at to) (a : t ≡ 1 → ⊥) (b : t ≡ 2 → ⊥) (c : t ≡ 7 → ⊥) where
   is-empty : (P : ℕ → Type 0) → P 5 → P 6 → P t
   is-empty P x y =
-      let (lo, hi) = fragment-tags {before = 0} (record { yes = L .right-tag }) in
+      let (lo, hi) = fragment-tags {before = 0} (record { yes = L .node .right-tag }) in
       let (m, n) = no-block-at t (L .no-block) in
       by-test (eqb t 5) (λ q. rw (eqb-true t 5 q) x) (λ q. let e : t ≡ 6 = omega (arith, eqb-false t 5 q) in rw e y)
 
-  pub empty-value : (d : ℕ) → length v ≡ 0 → ValueSaid t d p v Sound
-  unfolding right-length is-block holds content sound checked
-  empty-value d l =
+  pub empty-value : (d p : ℕ) (v : List ℕ) {x : Result (Unit {0})} → length v ≡ 0 → x ≡ accepted tt → ValueSaid t d p v x
+  unfolding right-length is-block holds content sound
+  empty-value d p v {x} l e =
       let n : eqb (length v) 0 ≡ true = eq-eqb (length v) 0 l in
-      is-empty (λ t. ValueSaid t d p v Sound) (bytes-at d p v 5 n refl refl refl) (bytes-at d p v 6 n refl refl refl)
+      is-empty (λ t. ValueSaid t d p v x) (bytes-at d p v 5 n refl refl e) (bytes-at d p v 6 n refl refl e)
 
-  pub filled-value : (d : ℕ) {r : Checked} → (length v ≡ 0 → ⊥) → checked r ≡ refused 5 p → ValueSaid t d p v r
+  pub filled-value : (d p : ℕ) (v : List ℕ) {x : Result (Unit {0})} → (length v ≡ 0 → ⊥) → x ≡ refused 5 p → ValueSaid t d p v x
   unfolding value-result right-length need _>>_ done
-  filled-value d {r} l e =
+  filled-value d p v {x} l e =
       let n : eqb (length v) 0 ≡ false = ne-eqb (length v) 0 l in
-      is-empty (λ t. ValueSaid t d p v r) (record { is = rw n e }) (record { is = rw n e })
+      is-empty (λ t. ValueSaid t d p v x) (record { is = rw n e }) (record { is = rw n e })

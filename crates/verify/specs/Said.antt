@@ -1,12 +1,19 @@
 -- What a check says in the rules' words.
-use Rattle.rules.specs.Result.{Result, refused, accepted, refusal}
-use Rattle.verify.specs.declared.answer.Checked.{Checked}
-use Rattle.verify.specs.declared.answer.Checked.the-variants.{Sound, Faulty}
+use Prim.Native.Nat.{ℕ, zero, suc, _/_, _%_}
+use Rattle.rules.specs.Result.{Result, refused, accepted}
+use Rattle.verify.specs.declared.style.Styled.{Styled}
+use Rattle.verify.specs.declared.style.Styled.the-variants.{Right, WrongLength, BadStyle}
 
--- a check says that all is sound, or the refusal
-unfoldable pub checked : Checked → Result (Unit {0})
-checked Sound = accepted tt
-checked (Faulty r) = refusal r
+-- a verdict says that all is sound, or the refusal's number and place
+unfoldable pub verdict : ℕ → Result (Unit {0})
+verdict zero = accepted tt
+verdict (suc n) = refused (suc n % 256) (suc n / 256)
+
+-- what is said of a style's field at a place
+unfoldable pub styled : Styled → (place : ℕ) → Result (Unit {0})
+styled Right p = accepted tt
+styled WrongLength p = refused 5 p
+styled BadStyle p = refused 8 p
 
 -- what a result says as a check: whether it is accepted
 unfoldable pub done : {A : Type 0} → Result A → Result (Unit {0})

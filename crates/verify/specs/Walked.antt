@@ -1,17 +1,17 @@
--- What the check of a value, of a field and of the fields in a value answers: the rules' walk, as a check.
-use mathlib.Core.List.{List, [], _∷_}
+-- What the check of a value and of the fields in it answers: the rules' walk, as a check.
+use mathlib.Core.List.{List, _++_}
 use mathlib.Core.Path.{_≡_}
-use mathlib.Core.Bool.{true, false, _&&_, not}
-use Prim.Native.Nat.{ℕ, _+_, _<_, _^_}
-use lib.Dec.{leb}
-use lib.ListN.{length, drop}
+use mathlib.Core.Bool.{true, false, _&&_, _||_, not}
+use Prim.Native.Nat.{ℕ, _+_, _≤_, _<_, _^_}
+use lib.Dec.{leb, eqb}
+use lib.ListN.{length, getD}
 use Rattle.rules.specs.Limits.{most-blocks}
-use Rattle.rules.specs.Result.{Result, refused, _>>=_, _>>_, need, sound}
-use Rattle.rules.specs.Walk.{Holder, in-fragment, Field, Value, front, content, valued, walk, holds, complete, tags, allowed, right-length, is-block}
+use Rattle.rules.specs.Bytes.{has}
+use Rattle.rules.specs.Result.{Result, _>>=_, _>>_, need, sound}
+use Rattle.rules.specs.Walk.{Holder, in-fragment, in-text, Value, content, valued, walk, holds, complete, tags, allowed, right-length, is-block}
 use Rattle.rules.specs.Good.{depth-in}
 use Rattle.rules.specs.Answers.{itself}
-use Rattle.verify.specs.declared.answer.Checked.{Checked}
-use Rattle.verify.specs.Said.{checked, done}
+use Rattle.verify.specs.Said.{done}
 
 -- the content of a field of the tag t at the place p, inside d blocks
 unfoldable pub content-result : (t d p : ℕ) → List ℕ → Result (Value ℕ)
@@ -21,45 +21,43 @@ content-result t d p v = valued content itself (holds t) t p v (λ h. walk conte
 unfoldable pub value-result : (t d p : ℕ) → List ℕ → Result (Value ℕ)
 value-result t d p v = need (right-length t (length v)) 5 p >> (need (not (is-block t && leb most-blocks d)) 6 p >> content-result t d p v)
 
--- the rules' field at the front of some bytes; where none is left there is no header
-unfoldable pub front-of : Holder → (d before p : ℕ) → List ℕ → Result (Field ℕ)
-front-of h d before p [] = refused 3 p
-front-of h d before p (x ∷ s) = front itself h d before p x s
-
--- the field at the front of the bytes s in the holder h, after the tag before
-unfoldable pub field-result : Holder → (d before p : ℕ) → List ℕ → Result (Value ℕ)
-field-result h d before p s = front-of h d before p s >>= λ f. content-result (f .tag) d p (f .value)
-
--- the fields s of the holder h, inside d blocks; they stand at `base`, and the field that holds them at `place`
-unfoldable pub fields-result : Holder → (d base place : ℕ) → List ℕ → Result (Unit {0})
-fields-result h d base place s = walk content itself (length s) h d 0 base s >>= λ i. sound (complete h (tags i)) place
+-- what is left of the fields of the holder h at `place`, inside d blocks: r, which stands at `at`, after the tags ts, the last of which is before
+unfoldable pub rest-result : Holder → (ts : List ℕ) → (d before place at : ℕ) → List ℕ → Result (Unit {0})
+rest-result h ts d before place at r = walk content itself (length r) h d before at r >>= λ i. sound (complete h (ts ++ tags i)) place
 
 -- ---- as checks
 
-pub record ValueSaid (t d place : ℕ) (v : List ℕ) (r : Checked) : Type 0 where
-  pub is : checked r ≡ done (value-result t d place v)
+pub record ValueSaid (t d p : ℕ) (v : List ℕ) (x : Result (Unit {0})) : Type 0 where
+  pub is : x ≡ done (value-result t d p v)
 
--- the field at `at` of s, which stands at `place`
-pub record FieldSaid (h : Holder) (d before place : ℕ) (s : List ℕ) (at : ℕ) (r : Checked) : Type 0 where
-  pub is : checked r ≡ done (field-result h d before place (drop at s))
-
-pub record FieldsSaid (h : Holder) (d base place : ℕ) (s : List ℕ) (r : Checked) : Type 0 where
-  pub is : checked r ≡ fields-result h d base place s
+pub record RestSaid (h : Holder) (ts : List ℕ) (d before place at : ℕ) (r : List ℕ) (x : Result (Unit {0})) : Type 0 where
+  pub is : x ≡ rest-result h ts d before place at r
 
 -- ---- what they ask for
 
--- places fit a usize
-pub record Room (base : ℕ) (s : List ℕ) : Type 0 where
-  pub room : base + length s < 2 ^ 62
+-- the bytes of s from `from` to `end`, held by what stands at `place`; places leave room for a number
+pub record Part (s : List ℕ) (place from end : ℕ) : Type 0 where
+  pub behind : place ≤ from
+  pub rising : from ≤ end
+  pub ends : end ≤ length s
+  pub small : length s < 2 ^ 48
 
--- a byte of s at `at`, which stands at `place` of the file
-pub record Stands (s : List ℕ) (at place : ℕ) : Type 0 where
-  pub here : at < length s
-  pub room : place + length s < at + 2 ^ 62
-
--- a node of the tag t at `place` that is no block; its value v stands at `base`
-pub record Leaf (t base place : ℕ) (v : List ℕ) : Type 0 where
+-- a node of the tag t at `at` of s, up to `to`
+pub record Node (s : List ℕ) (t at to : ℕ) : Type 0 where
   pub right-tag : allowed in-fragment 0 t ≡ true
+  pub value : Part s at (at + 3) to
+
+-- one that is no block
+pub record Leaf (s : List ℕ) (t at to : ℕ) : Type 0 where
+  pub node : Node s t at to
   pub no-block : is-block t ≡ false
-  pub behind : base ≡ place + 3
-  pub room : base + length v < 2 ^ 62
+
+-- in a text, after the tags ts, the last of which is before: a 17 has not come, and what stands at `at`, if anything does, has to be one
+pub record TextLeft (before : ℕ) (ts s : List ℕ) (at end : ℕ) : Type 0 where
+  pub none-yet : has 17 ts ≡ false
+  pub one-wanted : at < end → allowed in-text before (getD s at 0) ≡ eqb (getD s at 0) 17
+
+-- in an anchor, after the tags ts, the last of which is before: its name has come
+pub record Named (before : ℕ) (ts : List ℕ) : Type 0 where
+  pub not-first : before ≡ 0 → ⊥
+  pub named : (has 18 ts || has 19 ts) ≡ true

@@ -1,45 +1,22 @@
-// The header of a field: three bytes there, the tag, the length fits.
-use crate::answer::Checked;
-use fields::wide;
-use rules::Refusal;
+// Where a field should stand and none does.
+use crate::verdict::Verdict;
+use crate::verdict::fault;
 ghost use mathlib.Core.Path.{_≡_};
-ghost use Prim.Native.Nat.{_+_, _≤_, _<_};
-ghost use lib.ListN.{length};
-ghost use Rattle.fields.specs.FieldAt.{length-at};
-ghost use Rattle.verify.specs.Said.{checked};
-ghost use Rattle.verify.specs.Fronts.{past-answer, Fronted};
+ghost use Prim.Native.Nat.{_+_, _<_, _≤_, _^_};
+ghost use lib.Dec.{leb};
+ghost use Rattle.verify.specs.Said.{verdict};
+ghost use Rattle.verify.specs.Fronts.{no-field};
 
-// Where the field at `at` ends, by its length.
-pub fn field_end(s: &[u8], at: usize) -> usize
-    requires { ⌜ at + 3 ≤ length (now s) ⌝ }
-    ensures { λ r. ⌜ r ≡ at + 3 + length-at (now (s .entry)) at ⌝ }
+// What is wrong at `at`, where no whole field stands before `end`: under three bytes are left, or else the tag is wrong, or the length passes the end.
+pub fn no_field(at: usize, end: usize, right: bool) -> Verdict
+    requires { ⌜ (at ≤ end) × (end < 2 ^ 48) ⌝ }
+    ensures { λ r. ⌜ verdict r ≡ no-field (leb (at + 3) end) right at ⌝ }
 {
-    at + 3 + (wide(s[at + 1]) * 256 + wide(s[at + 2]))
-}
-
-// A field whose three bytes are there and whose length passes the end.
-fn past(right: bool, place: usize) -> Checked
-    ensures { λ r. ⌜ checked r ≡ past-answer right place ⌝ }
-{
+    if end - at < 3 {
+        return fault(3, at);
+    }
     if right {
-        return Checked::Faulty(Refusal::Cut(place));
+        return fault(3, at);
     }
-    Checked::Faulty(Refusal::WrongTag(place))
-}
-
-// The header of the field at `at` of s, whose tag is right or not. The tag comes as a test, so that this is small and each holder's own.
-pub fn check_front(s: &[u8], at: usize, right: bool, place: usize) -> Checked
-    requires { ⌜ at < length (now s) ⌝ }
-    ensures { λ r. ⌜ Fronted (now (s .entry)) at right place r ⌝ }
-{
-    if s.len() - at < 3 {
-        return Checked::Faulty(Refusal::Cut(place));
-    }
-    if s.len() < field_end(s, at) {
-        return past(right, place);
-    }
-    if !right {
-        return Checked::Faulty(Refusal::WrongTag(place));
-    }
-    Checked::Sound
+    fault(4, at)
 }

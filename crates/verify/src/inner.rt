@@ -1,123 +1,182 @@
-// What holds no blocks: the fields of a 16, of a text and of an anchor. Each has a loop of its own, in which what is allowed is known to the compiler.
-use crate::answer::Checked;
-use crate::content::check_anchor;
-use crate::content::check_style;
+// What holds no blocks: the fields of a 16, of a text and of an anchor. They stand from `from` to `end`, and the field that holds them at `place`.
+use crate::content::NONE;
+use crate::content::check_name;
 use crate::content::check_text;
-use crate::front::check_front;
-use crate::front::field_end;
+use crate::front::no_field;
 use crate::seen::Seen;
 use crate::seen::complete_styles;
-use crate::tables::in_anchor;
+use crate::style::Styled;
+use crate::style::check_style;
+use crate::style::told;
 use crate::tables::in_styles;
-use crate::tables::in_text;
-use rules::Refusal;
-ghost use Prim.Native.Nat.{ℕ};
+use crate::tables::is_name;
+use crate::verdict::SOUND;
+use crate::verdict::Verdict;
+use crate::verdict::fault;
+use fields::Field;
+use fields::field_in;
+use looks::calm;
+ghost use mathlib.Core.Path.{_≡_};
+ghost use mathlib.Core.List.{List, []};
+ghost use Prim.Native.Nat.{ℕ, _+_, _<_};
+ghost use lib.ListN.{getD};
+ghost use lib.Seq.{slice};
+ghost use Rattle.rules.specs.Result.{accepted};
 ghost use Rattle.rules.specs.Walk.{in-text, in-anchor, in-styles};
-ghost use Rattle.verify.specs.Walked.{FieldSaid, FieldsSaid, Stands, Room};
+ghost use Rattle.looks.specs.Calm.{Says};
+ghost use Rattle.verify.specs.Said.{verdict};
+ghost use Rattle.verify.specs.Walked.{RestSaid, ValueSaid, Part, TextLeft, Named};
 
-// The field at `at` of a 16, after the tag before.
-fn style_field(s: &[u8], at: usize, before: u8, place: usize) -> Checked
-    requires { ⌜ Stands (now s) at place ⌝ }
-    ensures { λ r. ⌜ ((d : ℕ) → FieldSaid in-styles d before place (now (s .entry)) at r) ⌝ }
+// The fields of a 16.
+fn check_styles(s: &[u8], from: usize, end: usize, place: usize) -> Verdict
+    requires { ⌜ Part (now s) place from end ⌝ }
+    ensures { λ r. ⌜ ((d : ℕ) → RestSaid in-styles [] d 0 place from (slice from end (now (s .entry))) (verdict r)) ⌝ }
 {
-    let tag = s[at];
-    let f = check_front(s, at, in_styles(before, tag), place);
-    let Checked::Sound = f else {
-        return f;
-    };
-    check_style(&s[at + 3..field_end(s, at)], tag, place)
-}
-
-// The fields s of the 16 at `place`; they stand at `base`.
-fn check_styles(s: &[u8], base: usize, place: usize) -> Checked
-    requires { ⌜ Room base (now s) ⌝ }
-    ensures { λ r. ⌜ ((d : ℕ) → FieldsSaid in-styles d base place (now (s .entry)) r) ⌝ }
-{
-    let mut at = 0;
+    let mut at = from;
     let mut seen = Seen::nothing();
-    while at < s.len() {
-        let f = style_field(s, at, seen.before, base + at);
-        let Checked::Sound = f else {
-            return f;
+    while at < end {
+        let f = field_in(s, at, end);
+        let Field::Whole { tag, from: v, to } = f else {
+            return no_field(at, end, in_styles(seen.before, s[at]));
         };
-        seen = seen.with(s[at]);
-        at = field_end(s, at);
+        if !in_styles(seen.before, tag) {
+            return fault(4, at);
+        }
+        let c = check_style(&s[v..to], tag);
+        let Styled::Right = c else {
+            return told(c, at);
+        };
+        seen = seen.with(tag);
+        at = to;
     }
     complete_styles(seen, place)
 }
 
-// The field at `at` of a text, after the tag before.
-fn text_field(s: &[u8], at: usize, before: u8, place: usize) -> Checked
-    requires { ⌜ Stands (now s) at place ⌝ }
-    ensures { λ r. ⌜ ((d : ℕ) → FieldSaid in-text d before place (now (s .entry)) at r) ⌝ }
+// The 17 of a text, which is next or missing, and nothing behind it.
+fn check_last(s: &[u8], at: usize, end: usize, place: usize) -> Verdict
+    requires { ⌜ Part (now s) place at end ⌝ }
+    ensures { λ r. ⌜ ((d before : ℕ) (ts : List ℕ) → TextLeft before ts (now (s .entry)) at end → RestSaid in-text ts d before place at (slice at end (now (s .entry))) (verdict r)) ⌝ }
 {
-    let tag = s[at];
-    let f = check_front(s, at, in_text(before, tag), place);
-    let Checked::Sound = f else {
-        return f;
+    if at == end {
+        return fault(5, place);
+    }
+    let f = field_in(s, at, end);
+    let Field::Whole { tag, from: v, to } = f else {
+        return no_field(at, end, s[at] == 17);
     };
-    let v = &s[at + 3..field_end(s, at)];
-    if tag == 16 {
-        return check_styles(v, place + 3, place);
+    if tag != 17 {
+        return fault(4, at);
     }
-    check_text(v, place)
+    let said = check_text(s, v, to, at);
+    if said != SOUND {
+        return said;
+    }
+    if to == end {
+        return SOUND;
+    }
+    no_field(to, end, false)
 }
 
-// The fields s of the text at `place`; they stand at `base`. Nothing comes after a 17, so that it is the last where it was seen.
-pub fn check_text_fields(s: &[u8], base: usize, place: usize) -> Checked
-    requires { ⌜ Room base (now s) ⌝ }
-    ensures { λ r. ⌜ ((d : ℕ) → FieldsSaid in-text d base place (now (s .entry)) r) ⌝ }
+// A text that begins with a 16.
+fn check_styled(s: &[u8], from: usize, end: usize, place: usize) -> Verdict
+    requires { ⌜ Part (now s) place from end × ((from < end) × (getD (now s) from 0 ≡ 16)) ⌝ }
+    ensures { λ r. ⌜ ((d : ℕ) → RestSaid in-text [] d 0 place from (slice from end (now (s .entry))) (verdict r)) ⌝ }
 {
-    let mut at = 0;
-    let mut before = 0;
-    while at < s.len() {
-        let f = text_field(s, at, before, base + at);
-        let Checked::Sound = f else {
-            return f;
-        };
-        before = s[at];
-        at = field_end(s, at);
-    }
-    if before == 17 {
-        return Checked::Sound;
-    }
-    Checked::Faulty(Refusal::WrongLength(place))
-}
-
-// The field at `at` of an anchor, after the tag before.
-fn anchor_field(s: &[u8], at: usize, before: u8, place: usize) -> Checked
-    requires { ⌜ Stands (now s) at place ⌝ }
-    ensures { λ r. ⌜ ((d : ℕ) → FieldSaid in-anchor d before place (now (s .entry)) at r) ⌝ }
-{
-    let tag = s[at];
-    let f = check_front(s, at, in_anchor(before, tag), place);
-    let Checked::Sound = f else {
-        return f;
+    let f = field_in(s, from, end);
+    let Field::Whole { tag, from: v, to } = f else {
+        return no_field(from, end, true);
     };
-    let v = &s[at + 3..field_end(s, at)];
-    if tag == 1 {
-        return check_text_fields(v, place + 3, place);
+    let said = check_styles(s, v, to, from);
+    if said != SOUND {
+        return said;
     }
-    check_anchor(v, place)
+    check_last(s, to, end, place)
 }
 
-// The fields s of the anchor at `place`; they stand at `base`. The first is its name, so that only an empty anchor has none.
-pub fn check_anchor_fields(s: &[u8], base: usize, place: usize) -> Checked
-    requires { ⌜ Room base (now s) ⌝ }
-    ensures { λ r. ⌜ ((d : ℕ) → FieldsSaid in-anchor d base place (now (s .entry)) r) ⌝ }
+// The fields of a text: an optional 16, then one 17.
+pub fn check_text_fields(s: &[u8], from: usize, end: usize, place: usize) -> Verdict
+    requires { ⌜ Part (now s) place from end ⌝ }
+    ensures { λ r. ⌜ ((d : ℕ) → RestSaid in-text [] d 0 place from (slice from end (now (s .entry))) (verdict r)) ⌝ }
 {
-    let mut at = 0;
-    let mut before = 0;
-    while at < s.len() {
-        let f = anchor_field(s, at, before, base + at);
-        let Checked::Sound = f else {
-            return f;
+    if from < end {
+        if s[from] == 16 {
+            return check_styled(s, from, end, place);
+        }
+    }
+    check_last(s, from, end, place)
+}
+
+// The texts of an anchor, behind its name.
+fn check_runs(s: &[u8], from: usize, end: usize, place: usize) -> Verdict
+    requires { ⌜ Part (now s) place from end ⌝ }
+    ensures { λ r. ⌜ ((d before : ℕ) (ts : List ℕ) → Named before ts → RestSaid in-anchor ts d before place from (slice from end (now (s .entry))) (verdict r)) ⌝ }
+{
+    let mut at = from;
+    while at < end {
+        let f = field_in(s, at, end);
+        let Field::Whole { tag, from: v, to } = f else {
+            return no_field(at, end, s[at] == 1);
         };
-        before = s[at];
-        at = field_end(s, at);
+        if tag != 1 {
+            return fault(4, at);
+        }
+        let said = check_text_fields(s, v, to, at);
+        if said != SOUND {
+            return said;
+        }
+        at = to;
     }
-    if before == 0 {
-        return Checked::Faulty(Refusal::WrongLength(place));
+    SOUND
+}
+
+// The fields of an anchor: its name, then texts.
+pub fn check_anchor_fields(s: &[u8], from: usize, end: usize, place: usize) -> Verdict
+    requires { ⌜ Part (now s) place from end ⌝ }
+    ensures { λ r. ⌜ ((d : ℕ) → RestSaid in-anchor [] d 0 place from (slice from end (now (s .entry))) (verdict r)) ⌝ }
+{
+    if from == end {
+        return fault(5, place);
     }
-    Checked::Sound
+    let f = field_in(s, from, end);
+    let Field::Whole { tag, from: v, to } = f else {
+        return no_field(from, end, is_name(s[from]));
+    };
+    if !is_name(tag) {
+        return fault(4, from);
+    }
+    let said = check_name(s, v, to, from);
+    if said != SOUND {
+        return said;
+    }
+    check_runs(s, to, end, place)
+}
+
+// A text of one short 17 in ASCII, as most are; `false` says nothing. The node of the tag stands from `at` to `to`.
+pub fn is_quick(s: &[u8], at: usize, to: usize, tag: u8) -> bool
+    requires { ⌜ Part (now s) at (at + 3) to ⌝ }
+    ensures { λ r. ⌜ Says r ((d : ℕ) → ValueSaid tag d at (slice (at + 3) to (now (s .entry))) (accepted tt)) ⌝ }
+{
+    if tag != 1 {
+        return false;
+    }
+    let from = at + 3;
+    if from == to {
+        return false;
+    }
+    if s[from] != 17 {
+        return false;
+    }
+    let f = field_in(s, from, to);
+    let Field::Whole {
+        tag: t,
+        from: v,
+        to: e,
+    } = f
+    else {
+        return false;
+    };
+    if e != to {
+        return false;
+    }
+    calm(s, v, e, NONE)
 }

@@ -1,8 +1,9 @@
 // The file check: the walk over a file's fields from the front, and the first fault with its place.
-pub mod answer;
 pub mod content;
 pub mod front;
 pub mod inner;
 pub mod seen;
+pub mod style;
 pub mod tables;
+pub mod verdict;
 pub mod walk;

@@ -1,10 +1,12 @@
 // The tags that a 16 has had so far: the last one, and those that matter at its end; and what is wrong there.
-use crate::answer::Checked;
-use rules::Refusal;
+use crate::verdict::SOUND;
+use crate::verdict::Verdict;
+use crate::verdict::fault;
 ghost use mathlib.Core.Path.{_≡_};
 ghost use mathlib.Core.Bool.{_&&_, _||_};
+ghost use Prim.Native.Nat.{_<_, _^_};
 ghost use Rattle.rules.specs.Result.{sound};
-ghost use Rattle.verify.specs.Said.{checked};
+ghost use Rattle.verify.specs.Said.{verdict};
 ghost use Rattle.verify.specs.Seeing.{nothing-seen, seen-with, complete-seen};
 
 pub struct Seen {
@@ -60,14 +62,15 @@ impl Seen {
 }
 
 // A 16 needs colour with opacity, and has one script at most.
-pub fn complete_styles(seen: Seen, place: usize) -> Checked
-    ensures { λ r. ⌜ checked r ≡ sound (complete-seen seen) place ⌝ }
+pub fn complete_styles(seen: Seen, place: usize) -> Verdict
+    requires { ⌜ place < 2 ^ 48 ⌝ }
+    ensures { λ r. ⌜ verdict r ≡ sound (complete-seen seen) place ⌝ }
 {
     if both(seen.opacity, !seen.colour) {
-        return Checked::Faulty(Refusal::BadStyle(place));
+        return fault(8, place);
     }
     if both(seen.subscript, seen.superscript) {
-        return Checked::Faulty(Refusal::BadStyle(place));
+        return fault(8, place);
     }
-    Checked::Sound
+    SOUND
 }

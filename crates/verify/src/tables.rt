@@ -4,7 +4,7 @@ use rules::LAST_STYLE;
 ghost use mathlib.Core.Path.{_≡_};
 ghost use Prim.Native.Nat.{_≤_};
 ghost use Rattle.rules.specs.Limits.{first-style, last-style};
-ghost use Rattle.rules.specs.Walk.{allowed, right-length, is-block, in-fragment, in-text, in-anchor, in-styles};
+ghost use Rattle.rules.specs.Walk.{allowed, right-length, is-block, in-fragment, in-anchor, in-styles};
 
 // A block, whose depth counts.
 pub fn is_block(tag: u8) -> bool
@@ -26,26 +26,10 @@ pub fn in_fragment(tag: u8) -> bool
     tag <= 7
 }
 
-// Of a text: an optional 16, then one 17.
-pub fn in_text(before: u8, tag: u8) -> bool
-    ensures { λ r. ⌜ r ≡ allowed in-text before tag ⌝ }
+// Of an anchor, first: its name.
+pub fn is_name(tag: u8) -> bool
+    ensures { λ r. ⌜ r ≡ allowed in-anchor 0 tag ⌝ }
 {
-    if tag == 16 {
-        return before == 0;
-    }
-    if tag == 17 {
-        return before <= 16;
-    }
-    false
-}
-
-// Of an anchor: one 18 or 19, then any number of 1.
-pub fn in_anchor(before: u8, tag: u8) -> bool
-    ensures { λ r. ⌜ r ≡ allowed in-anchor before tag ⌝ }
-{
-    if before != 0 {
-        return tag == 1;
-    }
     if tag == 18 {
         return true;
     }

@@ -1,106 +1,129 @@
-// The walk: the fields of a fragment and of a block, and the whole file.
-use crate::answer::Checked;
+// The walk: the fields of a fragment and of a block, from `from` to `end`, and the whole file.
 use crate::content::check_text;
-use crate::front::check_front;
-use crate::front::field_end;
+use crate::front::no_field;
 use crate::inner::check_anchor_fields;
 use crate::inner::check_text_fields;
+use crate::inner::is_quick;
 use crate::tables::in_fragment;
 use crate::tables::is_block;
+use crate::verdict::SOUND;
+use crate::verdict::Verdict;
+use crate::verdict::fault;
+use fields::Field;
+use fields::field_in;
 use rules::Answer;
 use rules::MOST_BLOCKS;
 use rules::MOST_BYTES;
 use rules::Refusal;
 ghost use mathlib.Core.Path.{_≡_};
-ghost use Prim.Native.Nat.{ℕ};
+ghost use mathlib.Core.List.{[]};
+ghost use Prim.Native.Nat.{ℕ, _+_};
+ghost use lib.Seq.{slice};
 ghost use Rattle.rules.specs.Walk.{in-fragment, in-block};
 ghost use Rattle.rules.specs.Answers.{check-answer};
-ghost use Rattle.rules.specs.Result.{said};
-ghost use Rattle.verify.specs.Walked.{FieldSaid, FieldsSaid, Stands, Room, Leaf, ValueSaid};
+ghost use Rattle.rules.specs.Result.{said, refusal, refused};
+ghost use Rattle.rules.proofs.Refused.{Fault};
+ghost use Rattle.verify.specs.Said.{verdict};
+ghost use Rattle.verify.specs.Walked.{RestSaid, ValueSaid, Part, Node, Leaf};
 
-// The value v of a node that is no block; it stands at `base`.
-fn check_leaf(v: &[u8], tag: u8, base: usize, place: usize) -> Checked
-    requires { ⌜ Leaf tag base place (now v) ⌝ }
-    ensures { λ r. ⌜ ((d : ℕ) → ValueSaid tag d place (now (v .entry)) r) ⌝ }
+// The value of a node that is no block: the node stands from `at` to `to`.
+fn check_leaf(s: &[u8], at: usize, to: usize, tag: u8) -> Verdict
+    requires { ⌜ Leaf (now s) tag at to ⌝ }
+    ensures { λ r. ⌜ ((d : ℕ) → ValueSaid tag d at (slice (at + 3) to (now (s .entry))) (verdict r)) ⌝ }
 {
+    let from = at + 3;
     if tag == 1 {
-        return check_text_fields(v, base, place);
+        return check_text_fields(s, from, to, at);
     }
     if tag == 2 {
-        return check_anchor_fields(v, base, place);
+        return check_anchor_fields(s, from, to, at);
     }
     if tag == 7 {
-        return check_text(v, place);
+        return check_text(s, from, to, at);
     }
-    if v.len() != 0 {
-        return Checked::Faulty(Refusal::WrongLength(place));
+    if from != to {
+        return fault(5, at);
     }
-    Checked::Sound
+    SOUND
 }
 
-// The node at `at` of a fragment, inside `depth` blocks.
-fn check_node(s: &[u8], at: usize, depth: usize, place: usize) -> Checked
-    requires { ⌜ Stands (now s) at place ⌝ }
-    ensures { λ r. ⌜ FieldSaid in-fragment depth 0 place (now (s .entry)) at r ⌝ }
+// The value of a node, which stands from `at` to `to`, inside `depth` blocks.
+fn check_node(s: &[u8], at: usize, to: usize, tag: u8, depth: usize) -> Verdict
+    requires { ⌜ Node (now s) tag at to ⌝ }
+    ensures { λ r. ⌜ ValueSaid tag depth at (slice (at + 3) to (now (s .entry))) (verdict r) ⌝ }
 {
-    let tag = s[at];
-    let f = check_front(s, at, in_fragment(tag), place);
-    let Checked::Sound = f else {
-        return f;
-    };
-    let v = &s[at + 3..field_end(s, at)];
-    let base = place + 3;
+    if is_quick(s, at, to, tag) {
+        return SOUND;
+    }
     if !is_block(tag) {
-        return check_leaf(v, tag, base, place);
+        return check_leaf(s, at, to, tag);
     }
     if MOST_BLOCKS <= depth {
-        return Checked::Faulty(Refusal::TooDeep(place));
+        return fault(6, at);
     }
-    check_block(v, depth + 1, base)
+    check_block(s, at + 3, to, depth + 1)
 }
 
-// The nodes s of a fragment, inside `depth` blocks; they stand at `base`.
-fn check_fragment(s: &[u8], depth: usize, base: usize) -> Checked
-    requires { ⌜ Room base (now s) ⌝ }
-    ensures { λ r. ⌜ FieldsSaid in-fragment depth base 0 (now (s .entry)) r ⌝ }
+// The nodes of a fragment, inside `depth` blocks.
+fn check_fragment(s: &[u8], from: usize, end: usize, depth: usize) -> Verdict
+    requires { ⌜ Part (now s) 0 from end ⌝ }
+    ensures { λ r. ⌜ RestSaid in-fragment [] depth 0 0 from (slice from end (now (s .entry))) (verdict r) ⌝ }
 {
-    let mut at = 0;
-    while at < s.len() {
-        let f = check_node(s, at, depth, base + at);
-        let Checked::Sound = f else {
-            return f;
+    let mut at = from;
+    while at < end {
+        let f = field_in(s, at, end);
+        let Field::Whole { tag, from: v, to } = f else {
+            return no_field(at, end, in_fragment(s[at]));
         };
-        at = field_end(s, at);
+        if !in_fragment(tag) {
+            return fault(4, at);
+        }
+        let said = check_node(s, at, to, tag, depth);
+        if said != SOUND {
+            return said;
+        }
+        at = to;
     }
-    Checked::Sound
+    SOUND
 }
 
-// The fragment at `at` of a block, inside `depth` blocks.
-fn check_piece(s: &[u8], at: usize, depth: usize, place: usize) -> Checked
-    requires { ⌜ Stands (now s) at place ⌝ }
-    ensures { λ r. ⌜ FieldSaid in-block depth 0 place (now (s .entry)) at r ⌝ }
+// The fragments of a block, inside `depth` blocks with it.
+fn check_block(s: &[u8], from: usize, end: usize, depth: usize) -> Verdict
+    requires { ⌜ Part (now s) 0 from end ⌝ }
+    ensures { λ r. ⌜ RestSaid in-block [] depth 0 0 from (slice from end (now (s .entry))) (verdict r) ⌝ }
 {
-    let f = check_front(s, at, s[at] == 8, place);
-    let Checked::Sound = f else {
-        return f;
-    };
-    check_fragment(&s[at + 3..field_end(s, at)], depth, place + 3)
-}
-
-// The fragments s of a block, inside `depth` blocks with it; they stand at `base`.
-fn check_block(s: &[u8], depth: usize, base: usize) -> Checked
-    requires { ⌜ Room base (now s) ⌝ }
-    ensures { λ r. ⌜ FieldsSaid in-block depth base 0 (now (s .entry)) r ⌝ }
-{
-    let mut at = 0;
-    while at < s.len() {
-        let f = check_piece(s, at, depth, base + at);
-        let Checked::Sound = f else {
-            return f;
+    let mut at = from;
+    while at < end {
+        let f = field_in(s, at, end);
+        let Field::Whole { tag, from: v, to } = f else {
+            return no_field(at, end, s[at] == 8);
         };
-        at = field_end(s, at);
+        if tag != 8 {
+            return fault(4, at);
+        }
+        let said = check_fragment(s, v, to, depth);
+        if said != SOUND {
+            return said;
+        }
+        at = to;
     }
-    Checked::Sound
+    SOUND
+}
+
+// The walk's refusal of a number at a place.
+fn refused_by(number: usize, place: usize) -> Refusal
+    requires { ⌜ Fault number ⌝ }
+    ensures { λ r. ⌜ refusal {A = ℕ} r ≡ refused number place ⌝ }
+{
+    match number {
+        3 => Refusal::Cut(place),
+        4 => Refusal::WrongTag(place),
+        5 => Refusal::WrongLength(place),
+        6 => Refusal::TooDeep(place),
+        7 => Refusal::NotUtf8(place),
+        8 => Refusal::BadStyle(place),
+        _ => Refusal::QuoteInAnchor(place),
+    }
 }
 
 // The file check: at most so many bytes, then the walk.
@@ -110,9 +133,9 @@ pub fn check(file: &[u8]) -> Answer
     if MOST_BYTES < file.len() {
         return Answer::Refused(Refusal::TooLong);
     }
-    let c = check_fragment(file, 0, 0);
-    match c {
-        Checked::Sound => Answer::Done(0),
-        Checked::Faulty(r) => Answer::Refused(r),
+    let said = check_fragment(file, 0, file.len(), 0);
+    if said == SOUND {
+        return Answer::Done(0);
     }
+    Answer::Refused(refused_by(said % 256, said / 256))
 }

@@ -1,27 +1,23 @@
--- `verify::inner::check_anchor_fields` meets its contract: the loop's invariant is `Come`, with the last tag.
-use Rattle.rules.proofs.Basics.{arith, length, needs, ℕ, _-_}
-use Rattle.rules.specs.Result.{refusal}
-use Rattle.verify.specs.Said.{checked}
+-- `verify::inner::check_anchor_fields` meets its contract: its name, then texts.
+use Rattle.rules.proofs.Basics.{sym, _∙_, [], ⊎-elim, arith, not-true, not-false, needs}
 use Rattle.rules.specs.Walk.{in-anchor}
-use Rattle.verify.proofs.SeenLaws.{HasName, no-name, name-more, name-lacks, name-there}
-use Rattle.verify.proofs.LoopLaws.{Come, come-first, come-last, come-stops, come-passes, come-on, field-stands}
+use Rattle.verify.proofs.SaidLaws.{sound-said, faulty-said}
+use Rattle.verify.proofs.SeenLaws.{no-name, is-named}
+use Rattle.verify.proofs.ValueLaws.{name-value}
+use Rattle.verify.proofs.RestLaws.{field-there, value-part, rest-part, rest-none, rest-short, whole-wrong, whole-stops, whole-on}
 use Rattle.verify.proofs.inner.check_anchor_fields.Statement.{statement}
 use Rattle.verify.proofs.inner.check_anchor_fields.Tie as tie
 
-abbrev Inv-loop : tie.InvT-loop
-Inv-loop s base place at₀ before₀ at before = (d : ℕ) → Come (HasName before) s in-anchor d base place before at
-
-abbrev μ-loop : tie.MeasureT-loop
-μ-loop s base place at₀ before₀ at before = length s - at
-
 pub check-anchor-fields-spec : {M : Type 1} → statement M
-check-anchor-fields-spec =
-    tie.close (tie.spec Inv-loop μ-loop (λ c. λ d. come-first no-name) (λ c. omega (arith, c .before .before .before .pre .room))
-    (λ c κs. field-stands (c .before .before .before .pre) (c .loop-test .taken)) (λ c. search needs) (λ c. search needs)
-    (λ c. λ d. come-stops (c .before .before .before .before .loop .inv d) (c .before .before .before .loop-test .taken) (c .before .before .anchor-field .ensures d) (c .enum-told2 .given .1))
-    (λ c. search needs)
-    (λ c κs. omega (arith, come-passes (c .before .before .before .before .before .loop .inv 0) (c .before .before .before .before .loop-test .taken) (c .before .before .before .anchor-field .ensures 0) (c .before .enum-told .given .1) .fits))
-    (λ c. omega (arith, c .field-end .ensures, come-passes (c .before .before .before .before .before .before .loop .inv 0) (c .before .before .before .before .before .loop-test .taken) (c .before .before .before .before .anchor-field .ensures 0) (c .before .before .enum-told .given .1) .fits))
-    (λ c. λ d. come-on (c .before .before .before .before .before .before .loop .inv d) (c .before .before .before .before .before .loop-test .taken) (c .before .before .before .before .anchor-field .ensures d) (c .before .before .enum-told .given .1) (c .field-end .ensures) (HasName _) (λ ts. name-more))
-    (λ c. unfold checked refusal in λ d. come-last (c .before .before .loop .inv d) (c .before .loop-test .left) (name-lacks (c .before .before .loop .inv d .keeps) _ (c .if1 .taken)))
-    (λ c. unfold checked in λ d. come-last (c .before .before .loop .inv d) (c .before .loop-test .left) (name-there (c .before .before .loop .inv d .keeps) _ (c .if1 .left))))
+check-anchor-fields-spec = tie.close (tie.spec (λ c κs. search needs)
+    (λ c d. rest-none (c .before .before .before .pre) in-anchor [] d 0 (omega arith) (no-name _ (c .fault .ensures)))
+    (λ c κs. search needs) (λ c. search needs) (λ c. search needs) (λ c κs. search needs) (λ c κs. search needs)
+    (λ c d. let m : tie.At-match-keys2 = search in let g : tie.After-field-in = search in let b : tie.Start = search in
+    rest-short (b .pre) in-anchor [] d 0 (omega (arith, b .pre .rising)) (g .field-in .ensures) (λ t from to e. ⊎-elim (λ k. omega arith) (λ k. omega arith) (rw e at (m .match .keys2))) (c .before .is-name .ensures) (c .no-field .ensures)) (λ c κs. search needs) (λ c κs. search needs)
+    (λ c d. let w : tie.After-f = search in let g : tie.After-field-in = search in let b : tie.Start = search in let A = field-there (b .pre) (g .field-in .ensures) (w .f .given .1) in whole-wrong (b .pre) in-anchor [] d 0 A (sym (c .before .before .is-name2 .ensures) ∙ not-true _ (c .before .if2 .taken)) (c .fault2 .ensures))
+    (λ c κs. let w : tie.After-f = search in let g : tie.After-field-in = search in let b : tie.Start = search in let A = field-there (b .pre) (g .field-in .ensures) (w .f .given .1) in value-part (b .pre) A)
+    (λ c d. let w : tie.After-f = search in let g : tie.After-field-in = search in let b : tie.Start = search in let A = field-there (b .pre) (g .field-in .ensures) (w .f .given .1) in let a = sym (c .before .before .before .is-name2 .ensures) ∙ not-false _ (c .before .before .if2 .left) in
+    whole-stops (b .pre) in-anchor [] d 0 A a (name-value d _ _ a (c .before .check-name .ensures)) (faulty-said (c .if3 .taken)))
+    (λ c κs. let w : tie.After-f = search in let g : tie.After-field-in = search in let b : tie.Start = search in let A = field-there (b .pre) (g .field-in .ensures) (w .f .given .1) in rest-part (b .pre) A)
+    (λ c d. let w : tie.After-f = search in let g : tie.After-field-in = search in let b : tie.Start = search in let A = field-there (b .pre) (g .field-in .ensures) (w .f .given .1) in let a = sym (c .before .before .before .before .is-name2 .ensures) ∙ not-false _ (c .before .before .before .if2 .left) in
+    whole-on (b .pre) in-anchor [] d 0 A a (rw (sound-said (c .before .if3 .left)) at (name-value d _ _ a (c .before .before .check-name .ensures))) (c .check-runs .ensures d _ _ (is-named a))))

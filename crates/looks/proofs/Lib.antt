@@ -1,0 +1,3 @@
+-- Windows over a text, and what calm bytes are.
+pub mod Windows
+pub mod CalmBytes

@@ -1,0 +1,2 @@
+-- What a quick look says.
+pub mod Calm

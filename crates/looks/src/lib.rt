@@ -1,0 +1,45 @@
+// A quick look at a short text: whether all its bytes are ASCII and none is one that is asked for. Eight bytes are looked at together, without an exit,
+// which the compiler makes one load and one comparison. `false` says nothing: the caller then looks byte by byte.
+ghost use Prim.Native.Nat.{_+_, _≤_};
+ghost use lib.ListN.{length};
+ghost use Rattle.looks.specs.Calm.{Fine, Calm, Says};
+
+// A byte that is not ASCII, or the one that is asked for.
+fn is_odd(b: u8, odd: u8) -> bool
+    ensures { λ r. ⌜ Fine odd b r ⌝ }
+{
+    if 127 < b {
+        return true;
+    }
+    b == odd
+}
+
+// The eight bytes from `from` on.
+fn calm_eight(s: &[u8], from: usize, odd: u8) -> bool
+    requires { ⌜ from + 8 ≤ length (now s) ⌝ }
+    ensures { λ r. ⌜ Says r (Calm odd (now (s .entry)) from (from + 8)) ⌝ }
+{
+    let mut found = false;
+    let mut k = 0;
+    while k < 8 {
+        if is_odd(s[from + k], odd) {
+            found = true;
+        }
+        k += 1;
+    }
+    !found
+}
+
+// The bytes from..to, where they are at most eight. They are looked at with those before them.
+pub fn calm(s: &[u8], from: usize, to: usize, odd: u8) -> bool
+    requires { ⌜ (from ≤ to) × (to ≤ length (now s)) ⌝ }
+    ensures { λ r. ⌜ Says r (Calm odd (now (s .entry)) from to) ⌝ }
+{
+    if 8 < to - from {
+        return false;
+    }
+    if to < 8 {
+        return false;
+    }
+    calm_eight(s, to - 8, odd)
+}
