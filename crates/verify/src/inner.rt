@@ -18,14 +18,14 @@ use fields::field_in;
 use looks::calm;
 ghost use mathlib.Core.Path.{_≡_};
 ghost use mathlib.Core.List.{List, []};
-ghost use Prim.Native.Nat.{ℕ, _+_, _<_};
-ghost use lib.ListN.{getD};
+ghost use Prim.Native.Nat.{ℕ, _+_, _<_, _≤_};
+ghost use lib.ListN.{length, getD};
 ghost use lib.Seq.{slice};
 ghost use Rattle.rules.specs.Result.{accepted};
 ghost use Rattle.rules.specs.Walk.{in-text, in-anchor, in-styles};
 ghost use Rattle.looks.specs.Calm.{Says};
 ghost use Rattle.verify.specs.Said.{verdict};
-ghost use Rattle.verify.specs.Walked.{RestSaid, ValueSaid, Part, TextLeft, Named};
+ghost use Rattle.verify.specs.Walked.{RestSaid, ValueSaid, Part, Colour, TextLeft, Named};
 
 // The fields of a 16.
 fn check_styles(s: &[u8], from: usize, end: usize, place: usize) -> Verdict
@@ -50,6 +50,34 @@ fn check_styles(s: &[u8], from: usize, end: usize, place: usize) -> Verdict
         at = to;
     }
     complete_styles(seen, place)
+}
+
+// The fields of a 16, where they are a colour alone, as they mostly are.
+fn is_colour(s: &[u8], from: usize, end: usize) -> bool
+    requires { ⌜ (from ≤ end) × (end ≤ length (now s)) ⌝ }
+    ensures { λ r. ⌜ Says r (Colour (now (s .entry)) from end) ⌝ }
+{
+    if end - from != 6 {
+        return false;
+    }
+    if s[from] != 32 {
+        return false;
+    }
+    if s[from + 1] != 0 {
+        return false;
+    }
+    s[from + 2] == 3
+}
+
+// The fields of a 16, a colour alone by one look.
+fn check_style_fields(s: &[u8], from: usize, end: usize, place: usize) -> Verdict
+    requires { ⌜ Part (now s) place from end ⌝ }
+    ensures { λ r. ⌜ ((d : ℕ) → RestSaid in-styles [] d 0 place from (slice from end (now (s .entry))) (verdict r)) ⌝ }
+{
+    if is_colour(s, from, end) {
+        return SOUND;
+    }
+    check_styles(s, from, end, place)
 }
 
 // The 17 of a text, which is next or missing, and nothing behind it.
@@ -86,7 +114,7 @@ fn check_styled(s: &[u8], from: usize, end: usize, place: usize) -> Verdict
     let Field::Whole { tag, from: v, to } = f else {
         return no_field(from, end, true);
     };
-    let said = check_styles(s, v, to, from);
+    let said = check_style_fields(s, v, to, from);
     if said != SOUND {
         return said;
     }
