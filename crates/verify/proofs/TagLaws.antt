@@ -1,7 +1,7 @@
 -- The table of fields, where a tag is none of those that a branch has tested.
 use Rattle.rules.proofs.Basics.{_≡_, refl, sym, _∙_, Bool, true, false, _&&_, _||_, ℕ, _≤_, _<_, arith, leb, ltb, eqb, le-leb, lt-leb, ne-eqb, eq-eqb, leb-true, eqb-true, eqb-false}
 use Rattle.rules.specs.Limits.{first-style, last-style}
-use Rattle.rules.specs.Bytes.{within}
+use Rattle.rules.specs.Bytes.{if_then_else_, within}
 use Rattle.rules.specs.Walk.{Holder, allowed, right-length, is-block, in-fragment, in-anchor, in-styles}
 use Rattle.rules.proofs.Chains.{no-path}
 
