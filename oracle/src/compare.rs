@@ -20,7 +20,7 @@ const MOST_REQUESTS: usize = 4_000;
 const MOST_BYTES: usize = 1 << 24;
 
 /// One page in so many is also asked for in rooms around the bound on its length, which are large.
-const AROUND_THE_BOUND: usize = 8;
+const AROUND_THE_BOUND: usize = 16;
 
 /// A request with what is right for it.
 pub struct Case {
