@@ -39,7 +39,8 @@ fn html_fits(n: usize, room: usize) -> bool
     if room < HTML_FRAME {
         return false;
     }
-    n <= (room - HTML_FRAME) / HTML_PER_BYTE
+    let behind = room - HTML_FRAME;
+    n <= behind / HTML_PER_BYTE
 }
 
 // The same of any page; a plain page has at most PLAIN_PER_BYTE for each byte.
