@@ -42,14 +42,15 @@ page-of K.the-variants.Plain t = fill itself (plain newline t)
 page-of K.the-variants.Body t = fill itself (body escape newline t)
 page-of K.the-variants.Document t = fill itself (document escape newline t)
 
--- the longest file whose HTML fits behind its frame in so much room, whatever the file is
+-- the longest file whose HTML fits in so much room with its frame, whatever the file is
 unfoldable pub longest-for : (room : ℕ) → ℕ
 longest-for room = (room - html-frame) / html-per-byte
 
--- the page of an accepted file of n bytes fits in so much room, whatever the file is (`WholeLaws.fits-surely`); a body goes by the document's frame
+-- the frame itself has to fit too; a body goes by the document's
 unfoldable pub html-fits : (n room : ℕ) → Bool
 html-fits n room = leb html-frame room && leb n (longest-for room)
 
+-- the page of an accepted file of n bytes fits in so much room, whatever the file is (`WholeLaws.fits-surely`)
 unfoldable pub surely-fits : K.Kind → (n room : ℕ) → Bool
 surely-fits K.the-variants.Plain n room = leb n (room / plain-per-byte)
 surely-fits K.the-variants.Body n room = html-fits n room
