@@ -20,10 +20,10 @@ static int refused(uint64_t answer) {
     return 1;
 }
 
-/* Room that is enough: for a plain page it is known beforehand, and a document is measured by asking for it with no room. */
-static size_t enough(page_entry entry, const uint8_t *file, size_t length) {
+/* Room that is enough for every file of the length. */
+static size_t enough(page_entry entry, size_t length) {
     if (entry == hazomeny_plain) return HAZOMENY_PLAIN_PER_BYTE * length;
-    return hazomeny_number(entry(file, length, NULL, 0));
+    return HAZOMENY_HTML_PER_BYTE * length + HAZOMENY_HTML_FRAME;
 }
 
 static int write_out(const uint8_t *page, size_t length) {
@@ -33,7 +33,7 @@ static int write_out(const uint8_t *page, size_t length) {
 
 /* Prints the page of a file that is laid out. */
 static int print(page_entry entry, const uint8_t *file, size_t length) {
-    size_t room = enough(entry, file, length);
+    size_t room = enough(entry, length);
     uint8_t *page = malloc(room + 1);
     if (!page) return mistake("no memory");
     uint64_t answer = entry(file, length, page, room);

@@ -18,9 +18,15 @@
 extern "C" {
 #endif
 
-/* The limits, as the proved library has them: the most bytes that a file may have, the widest layout in columns, and the most bytes of a
- * plain page for each byte of its file. */
-enum { HAZOMENY_MOST_BYTES = 60000, HAZOMENY_MOST_COLUMNS = 6553, HAZOMENY_PLAIN_PER_BYTE = 67 };
+/* The limits, as the proved library has them: the most bytes that a file may have, the widest layout in columns, the most bytes of a plain
+ * page for each byte of its file, those of an HTML page, and the bytes that an HTML document has around them. */
+enum {
+    HAZOMENY_MOST_BYTES = 60000,
+    HAZOMENY_MOST_COLUMNS = 6553,
+    HAZOMENY_PLAIN_PER_BYTE = 67,
+    HAZOMENY_HTML_PER_BYTE = 210,
+    HAZOMENY_HTML_FRAME = 1072
+};
 
 /* The number of the refusal, 1 to 10, or 0 if the file is accepted. */
 static inline unsigned hazomeny_refusal(uint64_t answer) { return (unsigned)(answer & 255); }
@@ -41,8 +47,8 @@ uint64_t hazomeny_layout(uint8_t *file, size_t length, size_t width);
  * every file, 10 never comes. */
 uint64_t hazomeny_plain(const uint8_t *file, size_t length, uint8_t *page, size_t room);
 
-/* The HTML body: one `pre` element, for a document that has the style element of hazomeny_html_document. Otherwise as hazomeny_plain, but
- * HAZOMENY_PLAIN_PER_BYTE says nothing about its length. */
+/* The HTML body: one `pre` element, for a document that has the style element of hazomeny_html_document. Otherwise as hazomeny_plain, but the
+ * `room` with which 10 never comes is HAZOMENY_HTML_PER_BYTE * length + HAZOMENY_HTML_FRAME. */
 uint64_t hazomeny_html_body(const uint8_t *file, size_t length, uint8_t *page, size_t room);
 
 /* The whole HTML document: the body, with its style element. Otherwise as hazomeny_html_body. */

@@ -1,8 +1,7 @@
 //! A page of a fragment file at a width, by the proved library.
 
-use hazomeny::{
-    append_html_body, append_html_document, append_plain_page, layout_file, Refusal, PLAIN_PER_BYTE,
-};
+use hazomeny::{append_html_body, append_html_document, append_plain_page, layout_file, Refusal};
+use hazomeny::{HTML_FRAME, HTML_PER_BYTE, PLAIN_PER_BYTE};
 
 #[derive(Clone, Copy)]
 pub enum Kind {
@@ -20,11 +19,11 @@ impl Kind {
         }
     }
 
-    /// Room for every plain page, and for nearly every page of HTML, of a file of so many bytes: there a page need not be measured first.
+    /// Room for every page of a file of so many bytes: there a page need not be measured first.
     fn room(self, length: usize) -> usize {
         match self {
             Self::Plain => PLAIN_PER_BYTE * length,
-            Self::Body | Self::Document => 2 * length + 2_048,
+            Self::Body | Self::Document => HTML_PER_BYTE * length + HTML_FRAME,
         }
     }
 

@@ -3,9 +3,14 @@
 use crate::check::{check, Refusal};
 use crate::tags::LARGEST_WIDTH;
 use crate::tree;
+use crate::words::MOST_TIMES;
 
 /// The page buffer is lent filled with this byte.
 pub const LENT: u8 = 0xa5;
+
+/// An HTML page has at most so many bytes for each byte of its file, and so many around them.
+const HTML_TIMES: usize = 210;
+const HTML_FRAME: usize = 1_072;
 
 #[derive(Clone, Copy, Debug, PartialEq, Eq)]
 pub enum Operation {
@@ -44,6 +49,15 @@ impl Operation {
 
     pub fn is_page(self) -> bool {
         Self::PAGES.contains(&self)
+    }
+
+    /// The most bytes that such a page of a file of so many bytes can have.
+    pub fn most_bytes(self, length: usize) -> usize {
+        match self {
+            Self::Check | Self::Layout => 0,
+            Self::Plain => MOST_TIMES * length,
+            Self::Body | Self::Document => HTML_TIMES * length + HTML_FRAME,
+        }
     }
 }
 

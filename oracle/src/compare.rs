@@ -12,7 +12,6 @@ use crate::shrink::shrink;
 use crate::subject::{self, Said, Subject};
 use crate::tree;
 use crate::wire;
-use crate::words::MOST_TIMES;
 
 /// A batch is asked when it holds so many requests, or so many bytes of files
 /// and lent bytes: few enough to hold, and enough that starting a command for
@@ -20,8 +19,8 @@ use crate::words::MOST_TIMES;
 const MOST_REQUESTS: usize = 4_000;
 const MOST_BYTES: usize = 1 << 24;
 
-/// The plain page of one file in so many is also asked for in rooms around the bound on its length, which are large.
-const AROUND_THE_BOUND: usize = 8;
+/// One page in so many is also asked for in rooms around the bound on its length, which are large.
+const AROUND_THE_BOUND: usize = 16;
 
 /// A request with what is right for it.
 pub struct Case {
@@ -262,8 +261,8 @@ impl Disagreement {
     }
 }
 
-/// No byte, a byte too few, just enough, and more; where there is no page to be too long, no byte and some. For the plain pages of some files also the room
-/// from which on a page surely fits, and a byte less.
+/// No byte, a byte too few, just enough, and more; where there is no page to be too long, no byte and some. For some pages also the room from
+/// which on a page surely fits, and a byte less.
 fn rooms(
     random: &mut Random,
     operation: Operation,
@@ -275,8 +274,8 @@ fn rooms(
         Some(length) => vec![0, length.saturating_sub(1), length, length + more],
         None => vec![0, more],
     };
-    if operation == Operation::Plain && random.one_in(AROUND_THE_BOUND) {
-        let bound = MOST_TIMES * file.len();
+    if random.one_in(AROUND_THE_BOUND) {
+        let bound = operation.most_bytes(file.len());
         rooms.extend([bound.saturating_sub(1), bound]);
     }
     rooms.dedup();

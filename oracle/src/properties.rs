@@ -7,7 +7,6 @@ use crate::check::check;
 use crate::field::{self, Field};
 use crate::tags::*;
 use crate::tree;
-use crate::words::MOST_TIMES;
 
 /// Holds or says what is wrong.
 pub type Held = Result<(), String>;
@@ -26,7 +25,7 @@ pub const OF_ACCEPTED: [Property; 10] = [
     ("a page is refused by 10 just when it does not fit", rooms),
     ("a mask has the same layout and the same lines", mask),
     ("the words are the same at every width", same_words),
-    ("a plain page is not too long for its file", not_too_long),
+    ("a page is not too long for its file", not_too_long),
 ];
 
 /// Of any bytes.
@@ -230,10 +229,12 @@ fn same_words(file: &[u8], width: u16) -> Held {
 fn not_too_long(file: &[u8], width: u16) -> Held {
     let (_, after) = laid_out(file, width)?;
     for file in [file, &after] {
-        let length = page(Operation::Plain, file)?.len();
-        ensure(length <= MOST_TIMES * file.len(), || {
-            format!("{length} bytes")
-        })?;
+        for operation in Operation::PAGES {
+            let length = page(operation, file)?.len();
+            ensure(length <= operation.most_bytes(file.len()), || {
+                format!("{operation:?} has {length} bytes")
+            })?;
+        }
     }
     Ok(())
 }

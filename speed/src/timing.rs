@@ -2,6 +2,7 @@
 
 use crate::inputs::Input;
 use crate::quartiles::Quartiles;
+use hazomeny::{HTML_FRAME, HTML_PER_BYTE, MOST_BYTES};
 use oracle::tree;
 use std::hint::black_box;
 use std::time::{Duration, Instant};
@@ -9,8 +10,8 @@ use std::time::{Duration, Instant};
 /// The width that files are laid out at.
 pub const WIDTH: usize = 80;
 
-/// The longest page of any file here is far below.
-pub const ROOM: usize = 8 << 20;
+/// The longest page that a file can have, an HTML document: where it is lent no page is measured before it is written.
+const ROOM: usize = HTML_PER_BYTE * MOST_BYTES + HTML_FRAME;
 
 /// What is timed. Each entry of the library checks the file that it is given, so ours has two checks in `OursPlain`.
 #[derive(Clone, Copy, PartialEq, Eq)]

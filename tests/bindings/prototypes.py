@@ -18,7 +18,7 @@ CODE_LIMITS = (ROOT / "crates" / "rules" / "src" / "lib.rt").read_text()
 RULE_LIMITS = (ROOT / "crates" / "rules" / "specs" / "Limits.antt").read_text()
 
 # The limits that a caller has to know, by their names in the proved code.
-CALLERS_LIMITS = ["MOST_BYTES", "MOST_COLUMNS", "PLAIN_PER_BYTE"]
+CALLERS_LIMITS = ["MOST_BYTES", "MOST_COLUMNS", "PLAIN_PER_BYTE", "HTML_PER_BYTE", "HTML_FRAME"]
 
 # What a parameter of a proved entry is in C and in Rust: a slice is a pointer and a length, and a page's length is called its room.
 LENGTHS = {"file": "length", "page": "room"}
@@ -94,8 +94,10 @@ class Limits(unittest.TestCase):
     def test_mistakes_are_found(self):
         for found, source, was, wrong in [
             (limits_in_c, HEADER, "PLAIN_PER_BYTE = 67", "PLAIN_PER_BYTE = 66"),
-            (limits_in_c, HEADER, "HAZOMENY_MOST_COLUMNS = 6553, ", ""),
+            (limits_in_c, HEADER, "HTML_FRAME = 1072", "HTML_FRAME = 1071"),
+            (limits_in_c, HEADER, "HAZOMENY_MOST_COLUMNS = 6553,", ""),
             (constants, LIMITS, "PLAIN_PER_BYTE: usize = 67", "PLAIN_PER_BYTE: usize = 68"),
+            (constants, LIMITS, "HTML_PER_BYTE: usize = 210", "HTML_PER_BYTE: usize = 209"),
         ]:
             with self.subTest(wrong):
                 self.assertIn(was, source)

@@ -1,6 +1,6 @@
 //! The five entries on slices, and the three pages appended to a vector.
 
-use crate::{Refusal, MOST_BYTES, PLAIN_PER_BYTE};
+use crate::{Refusal, HTML_FRAME, HTML_PER_BYTE, MOST_BYTES, PLAIN_PER_BYTE};
 
 /// The C names of the proved library; `include/hazomeny.h` says what each does.
 mod c {
@@ -103,11 +103,24 @@ pub fn plain_page(file: &[u8], page: &mut [u8]) -> Result<usize, Refusal> {
 /// assert!(page[..length].ends_with(b"\">\n&lt;</pre>"));
 /// # Ok::<(), hazomeny::Refusal>(())
 /// ```
+///
+/// A slice of [`HTML_PER_BYTE`](crate::HTML_PER_BYTE) times the file's length and [`HTML_FRAME`](crate::HTML_FRAME) bytes more is long enough for
+/// every file, which is proved.
+///
+/// ```
+/// use hazomeny::{HTML_FRAME, HTML_PER_BYTE};
+///
+/// let file = b"\x01\0\x08\x11\0\x05&&&&&";
+/// let mut page = vec![0; HTML_PER_BYTE * file.len() + HTML_FRAME];
+/// let length = hazomeny::html_body(file, &mut page)?;
+/// assert!(page[..length].ends_with(b"\n&amp;&amp;&amp;&amp;&amp;</pre>"));
+/// # Ok::<(), hazomeny::Refusal>(())
+/// ```
 pub fn html_body(file: &[u8], page: &mut [u8]) -> Result<usize, Refusal> {
     lend(c::hazomeny_html_body, file, page)
 }
 
-/// Writes the whole HTML document of a file; otherwise as [`plain_page`].
+/// Writes the whole HTML document of a file; otherwise as [`html_body`].
 ///
 /// ```
 /// let mut page = [0; 2000];
@@ -133,16 +146,11 @@ pub fn html_document(file: &[u8], page: &mut [u8]) -> Result<usize, Refusal> {
 /// assert_eq!(page, b"> ok");
 /// ```
 pub fn append_plain_page(file: &[u8], page: &mut Vec<u8>) -> Result<usize, Refusal> {
-    let had_none = page.capacity() == 0;
-    page.reserve(PLAIN_PER_BYTE * file.len().min(MOST_BYTES));
-    let said = append_to_spare(c::hazomeny_plain, file, page);
-    if had_none {
-        page.shrink_to_fit();
-    }
-    said
+    append(c::hazomeny_plain, most_plain(file), file, page)
 }
 
-/// Appends the HTML body of a file; otherwise as [`append_plain_page`].
+/// Appends the HTML body of a file; otherwise as [`append_plain_page`], with room for [`HTML_PER_BYTE`](crate::HTML_PER_BYTE) times the file's
+/// length and [`HTML_FRAME`](crate::HTML_FRAME).
 ///
 /// ```
 /// let mut page = b"<body>".to_vec();
@@ -151,10 +159,10 @@ pub fn append_plain_page(file: &[u8], page: &mut Vec<u8>) -> Result<usize, Refus
 /// # Ok::<(), hazomeny::Refusal>(())
 /// ```
 pub fn append_html_body(file: &[u8], page: &mut Vec<u8>) -> Result<usize, Refusal> {
-    append(c::hazomeny_html_body, file, page)
+    append(c::hazomeny_html_body, most_html(file), file, page)
 }
 
-/// Appends the HTML document of a file; otherwise as [`append_plain_page`].
+/// Appends the HTML document of a file; otherwise as [`append_html_body`].
 ///
 /// ```
 /// let mut page = Vec::new();
@@ -164,7 +172,7 @@ pub fn append_html_body(file: &[u8], page: &mut Vec<u8>) -> Result<usize, Refusa
 /// # Ok::<(), hazomeny::Refusal>(())
 /// ```
 pub fn append_html_document(file: &[u8], page: &mut Vec<u8>) -> Result<usize, Refusal> {
-    append(c::hazomeny_html_document, file, page)
+    append(c::hazomeny_html_document, most_html(file), file, page)
 }
 
 type PageEntry = unsafe extern "C" fn(*const u8, usize, *mut u8, usize) -> u64;
@@ -175,19 +183,37 @@ fn lend(entry: PageEntry, file: &[u8], page: &mut [u8]) -> Result<usize, Refusal
     answer(unsafe { entry(file.as_ptr(), file.len(), page.as_mut_ptr(), page.len()) })
 }
 
-/// Tries the room that the vector has already, and makes more only where that is too little. The room is lent as it is, since clearing it
-/// would cost more than a small page in a large vector.
-fn append(entry: PageEntry, file: &[u8], page: &mut Vec<u8>) -> Result<usize, Refusal> {
-    let said = append_to_spare(entry, file, page);
-    match said.err().and_then(|refusal| refusal.bytes_needed()) {
-        Some(needed) => {
-            page.reserve(needed);
-            append_to_spare(entry, file, page)
-        }
-        None => said,
-    }
+/// The bytes of a file that a page can come from: a longer file has none.
+fn counted(file: &[u8]) -> usize {
+    file.len().min(MOST_BYTES)
 }
 
+fn most_plain(file: &[u8]) -> usize {
+    PLAIN_PER_BYTE * counted(file)
+}
+
+fn most_html(file: &[u8]) -> usize {
+    HTML_PER_BYTE * counted(file) + HTML_FRAME
+}
+
+/// Makes room for the most bytes that the page can have. What a vector that had no room before is left with is copied out of it: to shrink it
+/// costs the allocator more, which keeps a large mapping for a small page and makes the next one anew.
+fn append(
+    entry: PageEntry,
+    most: usize,
+    file: &[u8],
+    page: &mut Vec<u8>,
+) -> Result<usize, Refusal> {
+    let had_none = page.capacity() == 0;
+    page.reserve(most);
+    let said = append_to_spare(entry, file, page);
+    if had_none {
+        *page = page.as_slice().to_vec();
+    }
+    said
+}
+
+/// Lends the vector's room as it is, since clearing it would cost more than a small page in a large vector.
 fn append_to_spare(entry: PageEntry, file: &[u8], page: &mut Vec<u8>) -> Result<usize, Refusal> {
     let spare = page.spare_capacity_mut();
     let (start, room) = (spare.as_mut_ptr().cast(), spare.len());

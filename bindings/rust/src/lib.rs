@@ -21,7 +21,7 @@
 //! ```
 //!
 //! A plain page has at most [`PLAIN_PER_BYTE`] bytes for each byte of its file, so that a slice of that length is never too short for
-//! [`plain_page`].
+//! [`plain_page`]; an HTML body or document has at most [`HTML_PER_BYTE`] for each, and [`HTML_FRAME`] bytes around them.
 //!
 //! The code behind these functions is a static library, `libhazomeny.a`, for x86-64 Linux. It uses no memory but the stack (under
 //! 16 KiB of it), keeps no state, and may be called from any number of threads.
@@ -35,5 +35,5 @@ mod refusal;
 
 pub use entries::{append_html_body, append_html_document, append_plain_page};
 pub use entries::{check_file, html_body, html_document, layout_file, plain_page};
-pub use limits::{MOST_BYTES, MOST_COLUMNS, PLAIN_PER_BYTE};
+pub use limits::{HTML_FRAME, HTML_PER_BYTE, MOST_BYTES, MOST_COLUMNS, PLAIN_PER_BYTE};
 pub use refusal::Refusal;

@@ -8,3 +8,10 @@ pub const MOST_COLUMNS: usize = 6_553;
 
 /// The most bytes of a plain page for each byte of its file: a page of so many times the file's length is never refused by 10.
 pub const PLAIN_PER_BYTE: usize = 67;
+
+/// The most bytes of an HTML body or document for each byte of its file, beside [`HTML_FRAME`]: a page of so many times the file's length and
+/// the frame is never refused by 10.
+pub const HTML_PER_BYTE: usize = 210;
+
+/// The bytes around the items of an HTML document, which is the document of an empty file; those of a body are fewer.
+pub const HTML_FRAME: usize = 1_072;

@@ -196,18 +196,62 @@ fn so_much_for_each_byte_is_enough_for_a_plain_page() {
     assert_eq!(plain_page(b"", &mut []), Ok(0));
 }
 
+/// Room for any page of a file.
+fn most_html(file: &[u8]) -> usize {
+    HTML_PER_BYTE * file.len() + HTML_FRAME
+}
+
+/// So many one-byte texts with a style that is long in HTML.
+fn styled(count: usize) -> Vec<u8> {
+    let styles = [
+        field(32, &[200; 3]),
+        field(33, &[0x3a, 0x80, 0x00, 0x01]),
+        field(34, &[0x80]),
+        field(35, &[7]),
+        field(38, b""),
+    ];
+    let text = field(1, &[field(16, &styles.concat()), field(17, b"&")].concat());
+    text.repeat(count)
+}
+
+#[test]
+fn so_much_for_each_byte_and_the_frame_is_enough_for_html() {
+    assert!(appended(append_html_body, &styled(100)).len() > 4 * styled(100).len());
+    for file in [indented_lines(29_000), styled(1), styled(1_700), call()] {
+        for (page, append) in &PAGES[1..] {
+            let right = appended(*append, &file);
+            for room in [most_html(&file) - 1, most_html(&file)] {
+                let mut lent = vec![LENT; room];
+                assert_eq!(page(&file, &mut lent), Ok(right.len()));
+                assert_eq!(lent[..right.len()], right);
+                assert!(lent[right.len()..].iter().all(|byte| *byte == LENT));
+            }
+        }
+    }
+}
+
+#[test]
+fn the_frame_is_the_document_of_no_byte() {
+    let mut page = vec![LENT; HTML_FRAME];
+    assert_eq!(html_document(b"", &mut page), Ok(HTML_FRAME));
+    page.pop();
+    assert_eq!(html_document(b"", &mut page), refused(10, HTML_FRAME));
+    assert!(html_body(b"", &mut page).is_ok());
+}
+
 #[test]
 fn a_vector_with_room_keeps_its_place() {
     let lines = indented_lines(500);
     assert!(appended(append_plain_page, &lines).len() > 20 * lines.len());
+    let room = most_html(&lines);
     for (_, append) in PAGES {
         for file in [call(), lines.clone()] {
-            let mut page = Vec::with_capacity(100_000);
+            let mut page = Vec::with_capacity(room);
             let start = page.as_ptr();
             for _ in 0..3 {
                 page.clear();
                 append(&file, &mut page).expect("the file is accepted");
-                assert_eq!((page.as_ptr(), page.capacity()), (start, 100_000));
+                assert_eq!((page.as_ptr(), page.capacity()), (start, room));
                 assert_eq!(page, appended(append, &file));
             }
         }
@@ -216,18 +260,20 @@ fn a_vector_with_room_keeps_its_place() {
 
 #[test]
 fn a_new_vector_keeps_no_more_than_it_needs() {
-    for file in [call(), indented_lines(500)] {
+    for (_, append) in PAGES {
+        for file in [call(), indented_lines(500)] {
+            let mut page = Vec::new();
+            let length = append(&file, &mut page).expect("the file is accepted");
+            assert!(
+                page.capacity() < length + 16,
+                "{} bytes of room for {length}",
+                page.capacity()
+            );
+        }
         let mut page = Vec::new();
-        let length = append_plain_page(&file, &mut page).expect("the file is accepted");
-        assert!(
-            page.capacity() < length + 16,
-            "{} bytes of room for {length}",
-            page.capacity()
-        );
+        append(&[99; 100], &mut page).expect_err("no field");
+        assert_eq!(page.capacity(), 0);
     }
-    let mut page = Vec::new();
-    append_plain_page(&[99; 100], &mut page).expect_err("no field");
-    assert_eq!(page.capacity(), 0);
 }
 
 #[test]

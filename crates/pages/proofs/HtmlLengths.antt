@@ -1,6 +1,8 @@
 -- How long the HTML body and document of a good tree can be: what their items cost, and the fixed bytes around them. And how long any page can be.
-use Rattle.rules.proofs.Basics.{_≡_, refl, List, [], _∷_, _++_, Bool, true, false, ℕ, _+_, _*_, _^_, _≤_, _<_, arith, leb→le, length, length-append, length-map}
+use Rattle.rules.proofs.Basics.{_≡_, refl, sym, subst, List, [], _∷_, _++_, Bool, true, false, ℕ, _+_, _*_, _^_, _≤_, _<_, arith, length, length-append, length-map}
+use Rattle.rules.specs.Limits.{html-per-byte, html-frame}
 use Rattle.rules.specs.Bytes.{ascii, newline}
+use Rattle.rules.specs.Result.{accepted}
 use Rattle.rules.specs.Walk.{Fields, in-styles}
 use Rattle.rules.specs.Tree.{Styles, styles-of, Frag}
 use Rattle.rules.specs.Encode.{encode-fields, encode}
@@ -8,9 +10,11 @@ use Rattle.rules.specs.Good.{Bytes, Good, GoodTree}
 use Rattle.rules.specs.Lines.{Out, made, copied, push, pop, open-anchor, close-anchor, Item, char, marked, items}
 use Rattle.rules.specs.Plain.{fill}
 use Rattle.rules.specs.Html.{open-tag, close-tag, Escape, ampersand, less-than, as-it-is, escape, opening, closing, makes, copies, escaped, id-attribute, mark-html, item-html, items-html, body, before-body, after-body, document}
-use Rattle.rules.specs.Answers.{itself}
+use Rattle.rules.specs.Answers.{itself, tree}
 use Rattle.rules.specs.Alike.{Page, plain-page, html-body, html-document, shown}
+use Rattle.rules.specs.SameWords.{most-of}
 use Rattle.rules.proofs.Open.{all-open}
+use Rattle.rules.proofs.Files.{tree-read}
 use Rattle.rules.proofs.Demand3.{fill-length}
 use Rattle.rules.proofs.ItemCosts.{cost-all, pay}
 use Rattle.rules.proofs.PageLengths.{items-paid, plain-most}
@@ -72,7 +76,7 @@ unfolding html-cost item-html mark-html makes ascii
 close-most = omega arith
 
 -- THE ITEMS OF A PAGE COST AT MOST 210 BYTES OF HTML FOR EACH BYTE OF THE FILE
-items-most : (t : Frag ℕ) → GoodTree t → Bytes (encode t) → cost-all html-cost (items newline t) ≤ 210 * length (encode t)
+items-most : (t : Frag ℕ) → GoodTree t → Bytes (encode t) → cost-all html-cost (items newline t) ≤ html-per-byte * length (encode t)
 unfolding pay
 items-most t G z =
     omega (arith, items-paid html-cost 144 made-1 copied-most push-most (λ j. pop-most (styles-of j)) open-most close-most t G z)
@@ -80,7 +84,8 @@ items-most t G z =
 -- ---- the pages
 
 -- THE BODY IS NO LONGER THAN THAT, WITH ITS OPENING AND CLOSING; THE DOCUMENT HAS A FRAME MORE
-pub body-most : (t : Frag ℕ) → GoodTree t → Bytes (encode t) → length (fill itself (body escape newline t)) ≤ 210 * length (encode t) + (length opening + length closing)
+body-most : (t : Frag ℕ) → GoodTree t → Bytes (encode t)
+    → length (fill itself (body escape newline t)) ≤ html-per-byte * length (encode t) + (length opening + length closing)
 unfolding body
 body-most t G z =
     let is : List (Item ℕ) = items newline t in
@@ -95,8 +100,8 @@ body-most t G z =
       items-most t G z,
     )
 
-pub document-most : (t : Frag ℕ) → GoodTree t → Bytes (encode t)
-    → length (fill itself (document escape newline t)) ≤ 210 * length (encode t) + (length opening + length closing) + (length before-body + length after-body)
+document-most : (t : Frag ℕ) → GoodTree t → Bytes (encode t)
+    → length (fill itself (document escape newline t)) ≤ html-per-byte * length (encode t) + (length opening + length closing) + (length before-body + length after-body)
 unfolding document
 document-most t G z =
     omega (
@@ -110,15 +115,26 @@ document-most t G z =
       body-most t G z,
     )
 
+-- the fixed bytes of a document, counted
+frame-length : (length opening + length closing) + (length before-body + length after-body) ≡ html-frame
+unfolding all-open
+frame-length = refl
+
 -- ---- every page
 
--- the fixed bytes
-fixed-most : (length opening ≤ 4_096) × (length closing ≤ 4_096) × (length before-body ≤ 4_096) × (length after-body ≤ 4_096)
-unfolding all-open
-fixed-most = (leb→le _ _ tt, leb→le _ _ tt, leb→le _ _ tt, leb→le _ _ tt)
+tree-most : (k : Page) (t : Frag ℕ) → GoodTree t → Bytes (encode t) → length (fill itself (shown k escape newline t)) ≤ most-of k (length (encode t))
+tree-most plain-page t G z = plain-most t G z
+tree-most html-body t G z = omega (arith, body-most t G z, frame-length)
+tree-most html-document t G z = omega (arith, document-most t G z, frame-length)
+
+-- THE PAGE OF AN ACCEPTED FILE HAS AT MOST THE BYTES THAT `most-of` SAYS OF THE FILE'S LENGTH
+pub page-most : (k : Page) (s : List ℕ) (t : Frag ℕ) → Bytes s → tree s ≡ accepted t → length (fill itself (shown k escape newline t)) ≤ most-of k (length s)
+page-most k s t bs e =
+    let R = tree-read s t bs e in
+    rw (R .encodes) at (tree-most k t (R .good) (subst Bytes (sym (R .encodes)) bs))
 
 -- A PAGE OF A GOOD TREE WHOSE FILE IS BYTES IS SHORTER THAN 2^24
 pub page-short : (k : Page) (t : Frag ℕ) → GoodTree t → Bytes (encode t) → length (fill itself (shown k escape newline t)) < 2 ^ 24
-page-short plain-page t G z = omega (arith, plain-most t G z, G .short)
-page-short html-body t G z = omega (arith, body-most t G z, G .short, fixed-most .0, fixed-most .1)
-page-short html-document t G z = omega (arith, document-most t G z, G .short, fixed-most .0, fixed-most .1, fixed-most .2, fixed-most .3)
+page-short plain-page t G z = omega (arith, tree-most plain-page t G z, G .short)
+page-short html-body t G z = omega (arith, tree-most html-body t G z, G .short)
+page-short html-document t G z = omega (arith, tree-most html-document t G z, G .short)

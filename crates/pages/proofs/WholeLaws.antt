@@ -1,6 +1,6 @@
 -- The page of a whole file: what is refused, how long it is, and what is written.
-use Rattle.rules.proofs.Basics.{_≡_, refl, sym, ap, subst, _∙_, List, [], _++_, append-nil, append-assoc, true, false, ℕ, _/_, _<_, _≤_, arith, leb, length, leb-true, le-leb, lt-leb}
-use Rattle.rules.specs.Limits.{plain-per-byte}
+use Rattle.rules.proofs.Basics.{_≡_, refl, sym, ap, subst, _∙_, List, [], _++_, append-nil, append-assoc, Bool, true, false, _&&_, ℕ, _+_, _*_, _/_, _<_, _≤_, arith, leb, length, leb-true, le-leb, lt-leb}
+use Rattle.rules.specs.Limits.{plain-per-byte, html-per-byte, html-frame}
 use Rattle.rules.specs.Bytes.{newline}
 use Rattle.rules.specs.declared.Refusal.{Refusal}
 use Rattle.rules.specs.declared.Answer.{Answer}
@@ -15,19 +15,18 @@ use Rattle.rules.specs.Html.{escape, makes, items-html, opening, closing, befor
 use Rattle.rules.specs.Alike.{plain-page, html-body, html-document}
 use Rattle.rules.specs.Answers.{itself, tree, check-answer, written, left-page, plain-text, plain-outcome, body-text, body-outcome, document-text, document-outcome}
 use Rattle.rules.proofs.Chains.{no-path}
-use Rattle.rules.proofs.PageLengths.{page-most}
 use Rattle.verify.proofs.Verdicts.{RefusedSo, refused-so, AcceptedAs, accepted-as}
 use Rattle.writing.specs.Written.{last, Written}
 use Rattle.writing.proofs.Laws as writing
 use Rattle.writing.proofs.Laws.{how-long, fits, no-page}
 use Rattle.pages.specs.OpsIn.{fragment-in}
 use Rattle.pages.specs.Ran.{shown, machine, form, Rendered}
-use Rattle.pages.specs.Kinds.{form-of, head, foot, page-in, page-of, surely-fits, page-outcome}
+use Rattle.pages.specs.Kinds.{form-of, head, foot, page-in, page-of, longest-for, html-fits, surely-fits, page-outcome}
 use Rattle.pages.specs.declared.frame.Kind as K
 use Rattle.pages.specs.declared.frame.Kind.{Kind}
 use Rattle.pages.specs.declared.pen.Pen.{Pen}
 use Rattle.pages.proofs.OfTrees.{ops-tree}
-use Rattle.pages.proofs.HtmlLengths.{page-short}
+use Rattle.pages.proofs.HtmlLengths.{page-most, page-short}
 use Rattle.markup.proofs.Fills.{fill-append, fill-makes}
 
 -- ---- the pen over a whole file
@@ -69,13 +68,24 @@ page-last K.the-variants.Plain t G b = omega (arith, page-short plain-page t G b
 page-last K.the-variants.Body t G b = omega (arith, page-short html-body t G b)
 page-last K.the-variants.Document t G b = omega (arith, page-short html-document t G b)
 
+-- room for an HTML page of n bytes, with what stands around its items
+html-room : (n room : ℕ) → html-fits n room ≡ true → html-per-byte * n + html-frame ≤ room
+unfolding html-fits longest-for
+html-room n room h =
+    let (f, g) = both (leb html-frame room) (leb n (longest-for room)) h in
+    omega (arith, leb-true html-frame room f, leb-true n (longest-for room) g)
+  where
+    both : (a b : Bool) → (a && b) ≡ true → (a ≡ true) × (b ≡ true)
+    both true b e = (refl, e)
+    both false b e = no-path cc
+
 -- a page that surely fits, fits
 fits-surely : (k : Kind) (s : List ℕ) (t : Frag ℕ) (room : ℕ) → Bytes s → tree s ≡ accepted t → surely-fits k (length s) room ≡ true → length (page-of k t) ≤ room
 unfolding surely-fits page-of
 fits-surely K.the-variants.Plain s t room b e h =
-    omega (arith, page-most s t b e, leb-true (length s) (room / plain-per-byte) h)
-fits-surely K.the-variants.Body s t room b e h = no-path cc
-fits-surely K.the-variants.Document s t room b e h = no-path cc
+    omega (arith, page-most plain-page s t b e, leb-true (length s) (room / plain-per-byte) h)
+fits-surely K.the-variants.Body s t room b e h = omega (arith, page-most html-body s t b e, html-room (length s) room h)
+fits-surely K.the-variants.Document s t room b e h = omega (arith, page-most html-document s t b e, html-room (length s) room h)
 
 -- what a kind answers, by its page
 outcome-of : (k : Kind) (s page : List ℕ) → left-page (tree s >>= (λ t. accepted (page-of k t))) page ≡ page-outcome k s page

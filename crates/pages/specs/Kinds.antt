@@ -1,9 +1,9 @@
 -- The kinds of pages: how each shows its items, what stands around them, and what it answers.
 use mathlib.Core.List.{List, [], _++_}
-use mathlib.Core.Bool.{Bool, false}
-use Prim.Native.Nat.{ℕ, _/_}
+use mathlib.Core.Bool.{Bool, false, _&&_}
+use Prim.Native.Nat.{ℕ, _-_, _/_}
 use lib.Dec.{leb}
-use Rattle.rules.specs.Limits.{most-blocks, plain-per-byte}
+use Rattle.rules.specs.Limits.{most-blocks, plain-per-byte, html-per-byte, html-frame}
 use Rattle.rules.specs.Bytes.{newline}
 use Rattle.rules.specs.Result.{Result}
 use Rattle.rules.specs.Tree.{Frag}
@@ -42,11 +42,19 @@ page-of K.the-variants.Plain t = fill itself (plain newline t)
 page-of K.the-variants.Body t = fill itself (body escape newline t)
 page-of K.the-variants.Document t = fill itself (document escape newline t)
 
+-- the longest file whose HTML fits in so much room with its frame, whatever the file is
+unfoldable pub longest-for : (room : ℕ) → ℕ
+longest-for room = (room - html-frame) / html-per-byte
+
+-- the frame itself has to fit too; a body goes by the document's
+unfoldable pub html-fits : (n room : ℕ) → Bool
+html-fits n room = leb html-frame room && leb n (longest-for room)
+
 -- the page of an accepted file of n bytes fits in so much room, whatever the file is (`WholeLaws.fits-surely`)
 unfoldable pub surely-fits : K.Kind → (n room : ℕ) → Bool
 surely-fits K.the-variants.Plain n room = leb n (room / plain-per-byte)
-surely-fits K.the-variants.Body n room = false
-surely-fits K.the-variants.Document n room = false
+surely-fits K.the-variants.Body n room = html-fits n room
+surely-fits K.the-variants.Document n room = html-fits n room
 
 unfoldable pub page-outcome : K.Kind → (s page : List ℕ) → Result ℕ × List ℕ
 page-outcome K.the-variants.Plain s page = plain-outcome s page

@@ -8,6 +8,8 @@ use crate::state::state_of;
 use crate::walk::render_fragment;
 use lines::start;
 use rules::Answer;
+use rules::HTML_FRAME;
+use rules::HTML_PER_BYTE;
 use rules::MOST_BLOCKS;
 use rules::PLAIN_PER_BYTE;
 use rules::Refusal;
@@ -15,7 +17,7 @@ use verify::walk::check;
 ghost use mathlib.Core.Path.{_≡_};
 ghost use Rattle.rules.specs.Result.{said};
 ghost use Rattle.writing.specs.Written.{Written};
-ghost use Rattle.pages.specs.Kinds.{page-in, surely-fits, page-outcome};
+ghost use Rattle.pages.specs.Kinds.{page-in, html-fits, surely-fits, page-outcome};
 
 // Writes the page as far as it goes, and answers how many bytes all of it needs.
 fn render(kind: Kind, file: &[u8], page: &mut [u8]) -> usize
@@ -30,14 +32,25 @@ fn render(kind: Kind, file: &[u8], page: &mut [u8]) -> usize
     put_foot(page, p.at, kind)
 }
 
-// Whether the page of a file of n bytes fits without being measured: a plain page has at most PLAIN_PER_BYTE times as many.
+// Whether an HTML page of a file of n bytes fits without being measured: what stands around the items, and at most HTML_PER_BYTE for each byte.
+fn html_fits(n: usize, room: usize) -> bool
+    ensures { λ r. ⌜ r ≡ html-fits n room ⌝ }
+{
+    if room < HTML_FRAME {
+        return false;
+    }
+    let behind = room - HTML_FRAME;
+    n <= behind / HTML_PER_BYTE
+}
+
+// The same of any page; a plain page has at most PLAIN_PER_BYTE for each byte.
 fn surely_fits(kind: Kind, n: usize, room: usize) -> bool
     ensures { λ r. ⌜ r ≡ surely-fits kind n room ⌝ }
 {
     match kind {
         Kind::Plain => n <= room / PLAIN_PER_BYTE,
-        Kind::Body => false,
-        Kind::Document => false,
+        Kind::Body => html_fits(n, room),
+        Kind::Document => html_fits(n, room),
     }
 }
 

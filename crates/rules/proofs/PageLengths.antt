@@ -1,9 +1,8 @@
 -- How long a page can be, at a cost of each item. Before a part, a push, a pop or an empty anchor stand at most a break, a newline and two spaces for each
 -- of 32 levels, 66 bytes. Every one of these has a byte of the file that pays for it, so that a plain page is at most 67 times as long as its file.
-use Rattle.rules.proofs.Basics.{_≡_, refl, sym, _∙_, ap, subst, List, [], _∷_, _++_, map, Option, none, some, Bool, true, false, ℕ, zero, suc, _+_, _*_, _≤_, arith, length, length-append, le-refl, suc-mul}
+use Rattle.rules.proofs.Basics.{_≡_, refl, _∙_, ap, List, [], _∷_, _++_, map, Option, none, some, Bool, true, false, ℕ, zero, suc, _+_, _*_, _≤_, arith, length, length-append, le-refl, suc-mul}
 use Rattle.rules.specs.Limits.{most-blocks, plain-per-byte}
 use Rattle.rules.specs.Bytes.{if_then_else_, newline}
-use Rattle.rules.specs.Result.{accepted}
 use Rattle.rules.specs.Walk.{Fields, bytes, inside, in-fragment, in-block, in-text, in-anchor, in-styles, holds, is-block}
 use Rattle.rules.specs.Tree.{styles-of, Run, Leaf, text, anchor, space, force, if-block, indented, flexible, Frag, stop, leaf, block, Frags, none-left, frag}
 use Rattle.rules.specs.Encode.{field, encode-fields, run-fields, runs-fields, anchor-tag, leaf-fields, block-tag, frag-fields, frags-fields, encode}
@@ -12,9 +11,8 @@ use Rattle.rules.specs.Layout.{parts}
 use Prim.Native.Nat.{pred}
 use Rattle.rules.specs.Lines.{Mark, LineOp, part, mark, empty-anchor, new-line, break, indent, unindent, push, pop, open-anchor, close-anchor, later, styled, text-ops, run-ops, runs-ops, leaf-ops, ops, indented-ops, inline-ops, Break, a-space, a-newline, Line, has-text, Machine, start, Item, char, marked, made, copied, ignored, item, step, run, after, items}
 use Rattle.rules.specs.Plain.{chars, plain, fill}
-use Rattle.rules.specs.Answers.{itself, tree}
+use Rattle.rules.specs.Answers.{itself}
 use Rattle.rules.proofs.Turned.{leaf-bytes, encode-leaf}
-use Rattle.rules.proofs.Files.{tree-read}
 use Rattle.rules.proofs.Runs.{Ops, Items, after-append, run-append, broken-level}
 use Rattle.rules.proofs.SoundFields.{length-field, row-length, Sound, sound-in, sound-behind, sound-after, leaf-rest, shallow}
 use Rattle.rules.proofs.ItemCosts.{cost-all, cost-append, pay, pay-more, pay-add, pay-le, making-cost, item-cost, broken-cost}
@@ -251,8 +249,3 @@ plain-most t G z =
       plain-length (items newline t),
       items-paid one-each 1 (λ b. omega arith) (λ x. omega arith) (λ d before j g f. omega arith) (λ j. omega arith) (λ definition a. omega arith) (omega arith) t G z,
     )
-
-pub page-most : (s : List ℕ) (t : Frag ℕ) → Bytes s → tree s ≡ accepted t → length (fill itself (plain newline t)) ≤ plain-per-byte * length s
-page-most s t bs e =
-    let R = tree-read s t bs e in
-    rw (R .encodes) at (plain-most t (R .good) (subst Bytes (sym (R .encodes)) bs))

@@ -1,17 +1,15 @@
 -- Request E12 of what the entries answer and leave: layout at two widths, then the plain page.
-use Rattle.rules.proofs.Basics.{_≡_, refl, sym, _∙_, ap, List, Bool, true, false, ℕ, _*_, _≤_, leb, length, take, drop, take-at, leb-false}
-use Rattle.rules.specs.Limits.{plain-per-byte}
+use Rattle.rules.proofs.Basics.{_≡_, sym, _∙_, ap, List, Bool, true, false, ℕ, leb, length, take, drop, take-at}
 use Rattle.rules.specs.Bytes.{newline}
 use Rattle.rules.specs.Result.{refused, accepted, _>>=_}
 use Rattle.rules.specs.Good.{Bytes}
 use Rattle.rules.specs.Lines.{Item, items}
 use Rattle.rules.specs.Plain.{chars, plain, fill}
 use Rattle.rules.specs.Answers.{itself, tree, check-answer, layout-outcome, written, left-page, plain-text, plain-outcome}
-use Rattle.rules.specs.SameWords.{words, visible, marks, texts, file-fields, without-7, page-items, SaysTheSame, TwoWidths, Short}
+use Rattle.rules.specs.SameWords.{words, visible, marks, texts, file-fields, without-7, page-items, SaysTheSame, TwoWidths}
 use Rattle.rules.proofs.Chains.{no-path, bind-inv}
-use Rattle.rules.proofs.LeftLaid.{Left, left-by-layout}
+use Rattle.rules.proofs.LeftLaid.{left-by-layout}
 use Rattle.rules.proofs.SameWords.{same-at-every-width}
-use Rattle.rules.proofs.PageLengths.{page-most}
 
 -- ---- the words
 
@@ -61,26 +59,7 @@ module _ (s : List ℕ) (bs : Bytes s) (p : check-answer s ≡ accepted 0) where
         of-texts = W;
       }
 
--- ---- the length
-
-short-text : (n : ℕ) (text q : List ℕ) → length text ≤ plain-per-byte * n → Short n (length q) (left-page (accepted text) q .0)
-unfolding left-page written
-short-text n text q h = go (leb (length text) (length q)) refl
-  where
-    go : (fits : Bool) → leb (length text) (length q) ≡ fits → Short n (length q) (written fits text q .0)
-    go true e = h
-    go false e = (refl, leb-false (length text) (length q) e, h)
-
--- WHAT IS LEFT OF AN ACCEPTED FILE HAS A PLAIN PAGE OF AT MOST 67 TIMES THE FILE'S LENGTH
-pub short-page : (w : ℕ) (s q : List ℕ) → Bytes s → check-answer s ≡ accepted 0 → Short (length s) (length q) (plain-outcome (layout-outcome w s .1) q .0)
-unfolding check-answer plain-outcome plain-text _>>=_
-short-page w s q bs p =
-    let (t, e, f) = bind-inv _ _ _ p in
-    let L : Left s t (layout-outcome w s .1) = left-by-layout w s t bs e in
-    let u : List ℕ = layout-outcome w s .1 in
-    rw (L .reads) (short-text (length s) (fill itself (plain newline (L .root))) q (rw (L .same-length) at (page-most u (L .root) (L .are-bytes) (L .reads))))
-
--- and is bytes
+-- what is left of an accepted file is bytes
 pub left-bytes : (w : ℕ) (s : List ℕ) → Bytes s → check-answer s ≡ accepted 0 → Bytes (layout-outcome w s .1)
 unfolding check-answer
 left-bytes w s bs p = let (t, e, f) = bind-inv (tree s) _ _ p in left-by-layout w s t bs e .are-bytes

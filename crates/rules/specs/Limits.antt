@@ -17,6 +17,13 @@ most-columns = 6_553
 abbrev pub plain-per-byte : ℕ
 plain-per-byte = 67
 
+-- the bytes of an HTML page, for each byte of its file, and those around its items: the document's, of which the body's are a part
+abbrev pub html-per-byte : ℕ
+html-per-byte = 210
+
+abbrev pub html-frame : ℕ
+html-frame = 1_072
+
 -- the cap of widths, in tenths of a column
 abbrev pub most-tenths : ℕ
 most-tenths = 65_535

@@ -2,9 +2,9 @@
 use mathlib.Core.Path.{_≡_}
 use mathlib.Core.List.{List, [], _∷_, _++_}
 use mathlib.Core.Bool.{Bool, true, false, _&&_, _||_, not}
-use Prim.Native.Nat.{ℕ, _*_, _≤_, _<_}
+use Prim.Native.Nat.{ℕ, _+_, _*_, _≤_, _<_}
 use lib.Dec.{eqb}
-use Rattle.rules.specs.Limits.{plain-per-byte}
+use Rattle.rules.specs.Limits.{plain-per-byte, html-per-byte, html-frame}
 use Rattle.rules.specs.Bytes.{if_then_else_, newline}
 use Rattle.rules.specs.Result.{Result, refused, accepted, _>>=_}
 use Rattle.rules.specs.Walk.{Fields, end, bytes, inside, content, check}
@@ -12,6 +12,7 @@ use Rattle.rules.specs.Lines.{Mark, Item, char, marked, made, copied, it
 use Rattle.rules.specs.Plain.{chars, fill}
 use Rattle.rules.specs.Answers.{itself, tree}
 use Rattle.rules.specs.Mask.{is-text}
+use Rattle.rules.specs.Alike.{Page, plain-page, html-body, html-document}
 
 -- ---- of bytes and of items
 
@@ -94,10 +95,15 @@ pub record TwoWidths (s t t′ page page′ : List ℕ) : Type 0 where
   pub same-words : words page ≡ words page′
   pub of-texts : words page ≡ words (texts (file-fields s))
 
--- ---- how long a plain page is
+-- ---- how long a page is
 
--- an answer of the plain page's entry to an accepted file of n bytes, where `lent` bytes were lent: a page, or 10, of at most 67 n bytes. So 10 never comes where
--- 67 n bytes are lent
-abbrev pub Short : (n lent : ℕ) → Result ℕ → Type 0
-Short n lent (accepted m) = m ≤ plain-per-byte * n
-Short n lent (refused k m) = (k ≡ 10) × (lent < m) × (m ≤ plain-per-byte * n)
+-- the most bytes of the page of an accepted file of n bytes
+abbrev pub most-of : Page → (n : ℕ) → ℕ
+most-of plain-page n = plain-per-byte * n
+most-of html-body n = html-per-byte * n + html-frame
+most-of html-document n = html-per-byte * n + html-frame
+
+-- an answer of a page's entry, where `lent` bytes were lent: a page, or 10, of at most `most` bytes. So 10 never comes where `most` bytes are lent
+abbrev pub Short : (most lent : ℕ) → Result ℕ → Type 0
+Short most lent (accepted m) = m ≤ most
+Short most lent (refused k m) = (k ≡ 10) × (lent < m) × (m ≤ most)

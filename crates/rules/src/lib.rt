@@ -13,6 +13,11 @@ pub const MOST_COLUMNS: usize = 6553;
 // The most bytes of a plain page for each byte of its file.
 pub const PLAIN_PER_BYTE: usize = 67;
 
+// The most bytes of an HTML page for each byte of its file, and those around its items: the document's, of which the body's are a part.
+pub const HTML_PER_BYTE: usize = 210;
+
+pub const HTML_FRAME: usize = 1072;
+
 // The cap of widths, in tenths of a column.
 pub const MOST_TENTHS: u16 = 65535;
 
