@@ -26,6 +26,9 @@ signed-byte : (z : ℤ) → SFits w8 z → Within 128 128 z
 signed-byte (pos n) f = f .sfits
 signed-byte (negsuc n) f = f .sfits
 
+pub of-signed-byte : (P : ℤ → Bool) → T (each-within 128 128 P) → (z : ℤ) → SFits w8 z → T (P z)
+of-signed-byte P t z f = at-within 128 128 P t z (signed-byte z f)
+
 -- a number made of each signed byte fits a width
 pub fitting : (w : Width) (e : ℤ → ℤ) → T (each-within 128 128 (λ z. ltb (mag (e z)) (2 ^ hbits w))) → (z : ℤ) → SFits w8 z → SFits w (e z)
-fitting w e t z f = record { sfits = ltb→lt (mag (e z)) (2 ^ hbits w) (at-within 128 128 (λ z. ltb (mag (e z)) (2 ^ hbits w)) t z (signed-byte z f)) }
+fitting w e t z f = record { sfits = ltb→lt (mag (e z)) (2 ^ hbits w) (of-signed-byte (λ z. ltb (mag (e z)) (2 ^ hbits w)) t z f) }

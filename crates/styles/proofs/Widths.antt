@@ -1,5 +1,5 @@
 -- The width of one byte, read alone: what a field makes of it, and the walk over the fields.
-use Rattle.rules.proofs.Basics.{_≡_, refl, sym, ap, _∙_, List, Option, none, some, Bool, true, false, _||_, ℕ, suc, _+_, _-_, _%_, _≤_, _<_, arith, ltb, eqb, leb→le, eqb→eq, ℤ, pos, negsuc, length, take, drop, getD, eq-eqb, ne-eqb, lt-ltb, le-ltb, le-leb, lt-leb}
+use Rattle.rules.proofs.Basics.{_≡_, refl, sym, ap, _∙_, List, Option, none, some, Bool, true, false, _||_, ℕ, suc, _+_, _-_, _%_, _≤_, _<_, arith, ltb, eqb, leb→le, ℤ, pos, negsuc, length, take, drop, getD, eq-eqb, ne-eqb, le-ltb}
 use mathlib.Core.Bool.{cond}
 use Rattle.rules.specs.Bytes.{if_then_else_}
 use Rattle.rules.specs.Digits.{signed}
@@ -13,34 +13,26 @@ use Rattle.styles.specs.Said.{AllowedSize}
 use Rattle.styles.specs.StylesIn.{no-styles, right-value, put-part, with-field, styles-in}
 use Rattle.styles.proofs.StylesWritable.{effective-allowed, styles-writable}
 use Rattle.styles.specs.WidthIn.{sized, measure, script, width-with}
-use Rattle.styles.proofs.EveryByte.{of-byte}
 use Rattle.rules.proofs.Lengths.{number-one}
 use Rattle.styles.proofs.Parts.{either}
 use Rattle.styles.proofs.Reading.{Left, all-left, next-left, stopped, ended}
 
 -- ---- a size
 
--- the width at a byte's size
-at-size : (b : ℕ) → b < 256 → byte-width (some (signed b)) ≡ (if ltb b 128 then 10 + b else b - 246)
-unfolding byte-width not-negative signed
-at-size b h = eqb→eq _ _ (of-byte (λ b. true) (λ b. eqb (byte-width (some (signed b))) (if ltb b 128 then 10 + b else b - 246)) tt b h refl)
-
 module _ (n : ℕ) (v : List ℕ) (l : length v ≡ 1) where
-  size-put : getD v 0 0 < 256 → right-size (getD v 0 0) ≡ true → 256 + (if ltb (getD v 0 0) 128 then 10 + getD v 0 0 else getD v 0 0 - 246) ≡ width-with n 35 v
+  pub size-put : right-size (getD v 0 0) ≡ true → {w : ℕ} → w ≡ byte-width (some (signed (getD v 0 0))) → 256 + w ≡ width-with n 35 v
   unfolding width-with right-value right-length signed-byte
-  size-put h r = rw (eq-eqb (length v) 1 l, ← number-one v l, r) (ap (λ (w : ℕ). 256 + w) (sym (at-size (getD v 0 0) h)))
+  size-put r e = rw (eq-eqb (length v) 1 l, ← number-one v l, r) (ap (λ (w : ℕ). 256 + w) e)
 
-  pub low-size : getD v 0 0 < 118 → 256 + 10 + getD v 0 0 ≡ width-with n 35 v
-  unfolding right-size
-  low-size p =
-      let s = size-put (omega arith) (rw (le-leb (getD v 0 0) 117 (omega arith))) in
-      omega (arith, rw (lt-ltb (getD v 0 0) 128 (omega arith)) at s)
+  -- one that is not allowed
+  pub size-passed : right-size (getD v 0 0) ≡ false → n ≡ width-with n 35 v
+  unfolding width-with right-value right-length
+  size-passed r = rw (eq-eqb (length v) 1 l, ← number-one v l, r)
 
-  pub negative-size : 128 ≤ getD v 0 0 → getD v 0 0 < 256 → {w : ℕ} → w ≡ 256 + (getD v 0 0 - 246) → w ≡ width-with n 35 v
-  unfolding right-size
-  negative-size p h e =
-      let s = size-put h (rw (lt-leb (getD v 0 0) 117 (omega arith), le-leb 128 (getD v 0 0) p)) in
-      e ∙ rw (le-ltb (getD v 0 0) 128 p) at s
+-- a value of another length
+pub other-length : (n : ℕ) (v : List ℕ) → (length v ≡ 1 → ⊥) → n ≡ width-with n 35 v
+unfolding width-with right-value right-length
+other-length n v l = rw (ne-eqb (length v) 1 l)
 
 -- any other tag
 pub other-width : (n t : ℕ) (v : List ℕ) → (t ≡ 35 → ⊥) → (t ≡ 36 → ⊥) → (t ≡ 37 → ⊥) → n ≡ width-with n t v

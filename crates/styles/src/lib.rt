@@ -1,6 +1,7 @@
 // The style record of a text, read from the value of a field 16.
 ghost use mathlib.Core.Path.{_≡_};
 ghost use mathlib.Core.Bool.{true};
+ghost use mathlib.Core.Option.{some};
 ghost use Prim.Native.Nat.{_<_};
 ghost use lib.ListN.{length};
 ghost use lib.Ieee.{binary32, toBits};
@@ -266,24 +267,29 @@ const SIZED: u16 = 256;
 // The width of a byte under 36 or 37.
 const SCRIPT_WIDTH: u16 = 8;
 
-// A field 35 put into a byte's width: 10 and the size, or 0 where that is negative.
+// The width of a byte at a size: 10 and the size, or 0 where that is negative.
+fn sized_width(size: i8) -> u16
+    ensures { λ r. ⌜ r ≡ layout.byte-width (some size) ⌝ }
+{
+    let w = 10 + (size as i16);
+    if w < 0 {
+        return 0;
+    }
+    w as u16
+}
+
+// A field 35 put into a byte's width.
 fn with_size_width(w: u16, v: &[u8]) -> u16
     ensures { λ r. ⌜ r ≡ width-with w 35 (now (v .entry)) ⌝ }
 {
     if v.len() != 1 {
         return w;
     }
-    let b = v[0];
-    if b < 118 {
-        return SIZED + 10 + (b as u16);
+    let given = signed_byte(v[0]);
+    if given <= MAX_SIZE {
+        return SIZED + sized_width(given);
     }
-    if b < 128 {
-        return w;
-    }
-    if b < 246 {
-        return SIZED;
-    }
-    SIZED + ((b as u16) - 246)
+    w
 }
 
 // A field 36 or 37 put into a byte's width.

@@ -1,19 +1,15 @@
--- `styles::with_size_width` meets its contract: by where the byte stands.
-use Rattle.rules.proofs.Basics.{arith, refl, eq-eqb, ne-eqb, lt-leb, needs}
-use Rattle.styles.proofs.Widths.{low-size, negative-size}
-use Rattle.rules.proofs.Lengths.{number-one}
-use Rattle.rules.specs.Walk.{right-length, right-size}
-use Rattle.styles.specs.StylesIn.{right-value}
-use Rattle.styles.specs.WidthIn.{width-with}
+-- `styles::with_size_width` meets its contract: another length, or a size that is not allowed, is passed over.
+use Rattle.rules.proofs.Basics.{needs, sfits-of}
+use Rattle.styles.proofs.Sizes.{size-tested, width-at, sized-fits}
+use Rattle.styles.proofs.Widths.{size-put, size-passed, other-length}
 use Rattle.styles.proofs.with_size_width.Statement.{statement}
 use Rattle.styles.proofs.with_size_width.Tie as tie
 
 pub with-size-width-spec : {M : Type 1} → statement M
-with-size-width-spec = tie.close (tie.spec (λ c. unfold width-with right-value right-length in rw (ne-eqb _ 1 (c .if1 .taken))) (λ c. search needs) (λ c. search needs) (λ c. search needs) (λ c. search needs)
-    (λ c. low-size _ _ (c .before .before .if1 .left) (c .if2 .taken))
-    (λ c. unfold width-with right-value right-length right-size in let l = c .before .before .before .if1 .left in
-    rw (eq-eqb _ 1 l, ← (number-one _ l), lt-leb _ 117 (c .before .if2 .left), lt-leb 128 _ (c .if3 .taken)))
-    (λ c. negative-size _ _ (c .before .before .before .before .if1 .left) (c .before .if3 .left) (omega arith) (omega arith))
-    (λ c. record { fits = omega (arith, c .before .before .before .shared-slice-known .given 0) }) (λ c. search needs)
-    (λ c. record { fits = omega (arith, c .before .before .before .shared-slice-known .given 0) })
-    (λ c. negative-size _ _ (c .before .before .before .before .if1 .left) (c .before .if3 .left) (omega (arith, c .before .before .before .shared-slice-known .given 0)) refl))
+with-size-width-spec = tie.close (tie.spec (λ c. other-length _ _ (c .if1 .taken)) (λ c. search needs) (λ c κs. search needs) (λ c κs. search needs)
+    (λ c. let s = c .before .before .signed-byte in sized-fits {z = s .result} (sfits-of (s .ok)) (c .sized-width .ensures))
+    (λ c. let s = c .before .before .signed-byte in
+    let fits = sfits-of (s .ok) in
+    size-put _ _ (c .before .before .before .before .if1 .left) (size-tested _ _ _ fits (s .ensures) (c .before .if2 .taken)) (width-at fits (c .sized-width .ensures) (s .ensures)))
+    (λ c. let s = c .before .signed-byte in
+    size-passed _ _ (c .before .before .before .if1 .left) (size-tested _ _ _ (sfits-of (s .ok)) (s .ensures) (c .if2 .left))))
