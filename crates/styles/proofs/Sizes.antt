@@ -34,9 +34,9 @@ module _ (b : ℕ) (h : b < 256) (l : 128 ≤ b) where
       let n : 256 - suc b ≡ 255 - b = omega arith in
       ap (toZ w8) same ∙ rw (le-ltb b 128 l, n)
 
--- a size as it is stored, against the largest: the test of its byte
-pub size-tested : (z : ℤ) (b : ℕ) (r : Bool) → SFits w8 z → z ≡ signed b → leZ (toZ w8 (ofZ w8 z)) (pos 117) ≡ r → right-size b ≡ r
-size-tested z b r f e t = sym (size-test b) ∙ ap (λ (x : ℤ). leZ x (pos 117)) (sym (toZ-ofZ f ∙ e)) ∙ t
+-- a test of a size as it is stored that is the one against the largest: it is the test of the size's byte
+pub size-tested : (z : ℤ) (b : ℕ) {t r : Bool} → SFits w8 z → z ≡ signed b → t ≡ r → t ≡ leZ (toZ w8 (ofZ w8 z)) (pos 117) → right-size b ≡ r
+size-tested z b f e t m = sym (size-test b) ∙ ap (λ (x : ℤ). leZ x (pos 117)) (sym (toZ-ofZ f ∙ e)) ∙ sym m ∙ t
 
 -- ---- the width of a byte at a size: ten and the size, taken at 16 bits
 
