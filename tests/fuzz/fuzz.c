@@ -399,8 +399,15 @@ static uint64_t print(const char *name, page_entry entry, size_t room) {
 
 static uint64_t coded(unsigned number, uint64_t above) { return above << 8 | number; }
 
-/* A page measured, then in just enough room, a byte too few, more, and any room. */
-static void pages(const char *name, page_entry entry, uint64_t checked) {
+/* A page whose length is known, in some room. */
+static void in_room(const char *name, page_entry entry, size_t needed, size_t asked) {
+    size_t room = asked < MOST_PAGE ? asked : MOST_PAGE;
+    demand(print(name, entry, room) == (room < needed ? coded(10, needed) : coded(0, needed)), "a page that is answered otherwise than measured");
+}
+
+/* A page measured, then in just enough room, a byte too few, more, and any room; now and then in the most that such a file's page can need, where it is not
+ * measured first, and a byte less. */
+static void pages(const char *name, page_entry entry, size_t most, uint64_t checked) {
     uint64_t measured = print(name, entry, 0);
     if (checked) {
         demand(measured == checked && print(name, entry, below(60)) == checked, "a page that is refused otherwise than by the check");
@@ -408,10 +415,12 @@ static void pages(const char *name, page_entry entry, uint64_t checked) {
     }
     size_t needed = (size_t)hazomeny_number(measured);
     demand(needed == 0 ? measured == 0 : measured == coded(10, needed), "a page that is not measured");
+    demand(needed <= most, "a page that is longer than its bound");
     size_t rooms[] = {needed, needed ? needed - 1 : 0, needed + below(100), below(needed + 20)};
-    for (int i = 0; i < 4; i++) {
-        size_t room = rooms[i] < MOST_PAGE ? rooms[i] : MOST_PAGE;
-        demand(print(name, entry, room) == (room < needed ? coded(10, needed) : coded(0, needed)), "a page that is answered otherwise than measured");
+    for (int i = 0; i < 4; i++) in_room(name, entry, needed, rooms[i]);
+    if (one_in(8)) {
+        in_room(name, entry, needed, most);
+        in_room(name, entry, needed, most ? most - 1 : 0);
     }
 }
 
@@ -432,9 +441,10 @@ static void try_file(void) {
     if (checked == 0) accepted++;
     size_t width = any_width();
     if (one_in(2)) layout(checked, width);
-    pages("plain", hazomeny_plain, checked);
-    pages("html_body", hazomeny_html_body, checked);
-    pages("html_document", hazomeny_html_document, checked);
+    size_t html = HAZOMENY_HTML_PER_BYTE * length + HAZOMENY_HTML_FRAME;
+    pages("plain", hazomeny_plain, HAZOMENY_PLAIN_PER_BYTE * length, checked);
+    pages("html_body", hazomeny_html_body, html, checked);
+    pages("html_document", hazomeny_html_document, html, checked);
     layout(checked, width);
     if (checked == 0 && length < 8000 && firm < MOST_POOL && one_in(8)) {
         size_t slot = pooled < MOST_POOL ? pooled++ : firm + below(MOST_POOL - firm);
