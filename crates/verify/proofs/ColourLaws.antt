@@ -7,7 +7,7 @@ use Rattle.rules.specs.Walk.{in-styles, allowed, complete, right-length}
 use Rattle.fields.specs.FieldAt.{length-at}
 use Rattle.fields.proofs.Laws.{whole-in}
 use Rattle.verify.specs.Contents.{style-verdict}
-use Rattle.verify.specs.Walked.{RestSaid, Part, Colour}
+use Rattle.verify.specs.Walked.{RestSaid, Between, Colour}
 use Rattle.verify.proofs.Parts.{part-length}
 use Rattle.verify.proofs.ContentLaws.{by-content, no-content}
 use Rattle.verify.proofs.ValueLaws.{style-value}
@@ -26,7 +26,7 @@ colour-complete : (p : ℕ) {x : Result (Unit {0})} → x ≡ accepted tt → x 
 unfolding complete sound need _>>_ has
 colour-complete p q = q
 
-module _ {s : List ℕ} {place from end : ℕ} (P : Part s place from end) (C : Colour s from end) where
+module _ {s : List ℕ} {place from end : ℕ} (P : Between s place from end) (C : Colour s from end) where
   here : At s end from 32 (from + 3) (from + 6)
   here =
       let n : 3 ≡ length-at s from = omega (arith, C .high, C .low) in

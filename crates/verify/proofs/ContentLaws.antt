@@ -14,7 +14,7 @@ use Rattle.utf8.specs.Answer.{sound-if, utf8-answer}
 use Rattle.utf8.specs.declared.Utf8.{Utf8}
 use Rattle.utf8.specs.declared.Utf8.the-variants.{Sound, Broken}
 use Rattle.verify.specs.Contents.{style-verdict}
-use Rattle.verify.specs.Walked.{Part}
+use Rattle.verify.specs.Walked.{Between}
 use Rattle.verify.proofs.Parts.{sliced}
 
 -- ---- texts and anchors
@@ -28,7 +28,7 @@ if-broken true e = no-path (cc)
 if-broken false e = refl
 
 -- the bytes of a part, as they are lent
-module _ {s : List ℕ} {place from to : ℕ} (P : Part s place from to) {u : Utf8} (e : u ≡ utf8-answer (take (to - from) (drop from s))) where
+module _ {s : List ℕ} {place from to : ℕ} (P : Between s place from to) {u : Utf8} (e : u ≡ utf8-answer (take (to - from) (drop from s))) where
   is-sound : u ≡ Sound → utf8 (slice from to s) ≡ true
   unfolding utf8-answer
   is-sound w = if-sound (utf8 (slice from to s)) (sym (rw (sliced s from to (P .rising)) at e) ∙ w)
@@ -63,12 +63,12 @@ module _ {s : List ℕ} {place from to : ℕ} (P : Part s place from to) {u : Ut
       sound-name z q = simp (is-sound w, quote f, z) q
 
 -- calm bytes
-module _ {s : List ℕ} {place from to : ℕ} (P : Part s place from to) {odd : ℕ} (C : Calm odd s from to) {x : Result (Unit {0})} where
+module _ {s : List ℕ} {place from to : ℕ} (P : Between s place from to) {odd : ℕ} (C : Calm odd s from to) {x : Result (Unit {0})} where
   pub calm-text : x ≡ accepted tt → x ≡ sound (text-content (slice from to s)) place
   unfolding sound need _>>_ text-content
   calm-text q = simp (calm-utf8 (P .ends) (P .rising) C) q
 
-pub calm-name : {s : List ℕ} {place from to : ℕ} → Part s place from to → Calm 34 s from to → {x : Result (Unit {0})} → x ≡ accepted tt → x ≡ sound (anchor-content (slice from to s)) place
+pub calm-name : {s : List ℕ} {place from to : ℕ} → Between s place from to → Calm 34 s from to → {x : Result (Unit {0})} → x ≡ accepted tt → x ≡ sound (anchor-content (slice from to s)) place
 unfolding sound need _>>_ anchor-content
 calm-name P C q = simp (calm-utf8 (P .ends) (P .rising) C, calm-lacks (P .ends) (P .rising) C) q
 

@@ -7,19 +7,19 @@ use Rattle.fields.specs.FieldAt.{field-at}
 use Rattle.fields.specs.declared.Field.{Field}
 use Rattle.fields.proofs.Laws.{NotWhole}
 use Rattle.verify.specs.Fronts.{no-field}
-use Rattle.verify.specs.Walked.{ValueSaid, RestSaid, Part}
+use Rattle.verify.specs.Walked.{ValueSaid, RestSaid, Between}
 use Rattle.verify.proofs.SaidLaws.{Faulty}
 use Rattle.verify.proofs.RestLaws.{At, rest-part, rest-none, rest-short, whole-wrong, whole-stops, whole-on}
 
 -- the loop has come to `at`: what is left there says what all fields do (All). K holds of the last tag and the tags so far
 pub record Come (K : ℕ → List ℕ → Type 0) (h : Holder) (d : ℕ) (s : List ℕ) (place end at : ℕ) (All : Result (Unit {0}) → Type 0) : Type 0 where
-  pub part : Part s place at end
+  pub part : Between s place at end
   pub before : ℕ
   pub so-far : List ℕ
   pub keeps : K before so-far
   pub onwards : (x : Result (Unit {0})) → RestSaid h so-far d before place at (slice at end s) x → All x
 
-pub come-first : {K : ℕ → List ℕ → Type 0} {s : List ℕ} {place end at : ℕ} (h : Holder) (d before : ℕ) (ts : List ℕ) → Part s place at end → K before ts
+pub come-first : {K : ℕ → List ℕ → Type 0} {s : List ℕ} {place end at : ℕ} (h : Holder) (d before : ℕ) (ts : List ℕ) → Between s place at end → K before ts
     → Come K h d s place end at (RestSaid h ts d before place at (slice at end s))
 come-first h d before ts P k = record { part = P; before = before; so-far = ts; keeps = k; onwards = λ x R. R }
 
@@ -62,13 +62,9 @@ pub node-next : (before t : ℕ) → allowed in-fragment 0 t ≡ allowed in-frag
 unfolding allowed
 node-next before t = refl
 
-pub whole-block : (ts : List ℕ) (p : ℕ) {x : Result (Unit {0})} → x ≡ accepted tt → x ≡ sound (complete in-block ts) p
-unfolding complete sound
-whole-block ts p e = e
-
-pub whole-fragment : (ts : List ℕ) (p : ℕ) {x : Result (Unit {0})} → x ≡ accepted tt → x ≡ sound (complete in-fragment ts) p
-unfolding complete sound
-whole-fragment ts p e = e
+pub nothing-asked : (h : Holder) (ts : List ℕ) (p : ℕ) {x : Result (Unit {0})} → complete h ts ≡ [] → x ≡ accepted tt → x ≡ sound (complete h ts) p
+unfolding sound
+nothing-asked h ts p e q = rw e q
 
 -- nothing is asked of the tags
 abbrev pub Any : ℕ → List ℕ → Type 0

@@ -2,16 +2,16 @@
 use Rattle.rules.proofs.Basics.{_≡_, _∙_, ap, List, [], _∷_, ℕ, zero, suc, _+_, _-_, _≤_, zero-add, arith, length, take, drop, length-take-le}
 use lib.Seq.{slice, length-slice, take-take}
 use native.Mathlib.Nat.{suc-add}
-use Rattle.verify.specs.Walked.{Part}
+use Rattle.verify.specs.Walked.{Between}
 
 -- a part's end is the length of the bytes up to it
-pub up-to : {s : List ℕ} {place from end : ℕ} → Part s place from end → length (take end s) ≡ end
+pub up-to : {s : List ℕ} {place from end : ℕ} → Between s place from end → length (take end s) ≡ end
 up-to {s} {end = end} P = length-take-le end s (P .ends)
 
-pub part-length : {s : List ℕ} {place from end : ℕ} → Part s place from end → length (slice from end s) ≡ end - from
+pub part-length : {s : List ℕ} {place from end : ℕ} → Between s place from end → length (slice from end s) ≡ end - from
 part-length {s} {from = from} {end} P = length-slice from end s (P .ends)
 
-pub part-anywhere : {s : List ℕ} {place from end : ℕ} → Part s place from end → Part s 0 from end
+pub part-anywhere : {s : List ℕ} {place from end : ℕ} → Between s place from end → Between s 0 from end
 part-anywhere P = record { behind = omega arith; rising = P .rising; ends = P .ends; small = P .small }
 
 -- the part of a part

@@ -8,7 +8,7 @@ use Rattle.fields.specs.declared.Field.{Field}
 use Rattle.fields.specs.declared.Field.the-variants.{Whole}
 use Rattle.fields.proofs.Laws.{IsWhole, is-whole, NotWhole, whole}
 use Rattle.verify.specs.Fronts.{no-field, front-answer}
-use Rattle.verify.specs.Walked.{value-result, rest-result, ValueSaid, RestSaid, Part}
+use Rattle.verify.specs.Walked.{value-result, rest-result, ValueSaid, RestSaid, Between}
 use Rattle.verify.proofs.Parts.{up-to, part-of-part}
 use Rattle.verify.proofs.SaidLaws.{Faulty, stops-chain, stops-there, is-accepted, done-unit}
 use Rattle.verify.proofs.FrontLaws.{value-at, wrong-answer, short-answer, no-field-faulty}
@@ -21,7 +21,7 @@ pub record At (s : List ℕ) (end at t from to : ℕ) : Type 0 where
   pub inside : at < end
   pub whole : IsWhole (take end s) at t from to
 
-module _ {s : List ℕ} {place at end : ℕ} (P : Part s place at end) where
+module _ {s : List ℕ} {place at end : ℕ} (P : Between s place at end) where
   pub field-there : {f : Field} {t from to : ℕ} → f ≡ field-at (take end s) at → f ≡ Whole t from to → At s end at t from to
   field-there {f} {t} {from} {to} e w =
       let W = is-whole (take end s) at t from to f e w in
@@ -38,22 +38,22 @@ module _ {s : List ℕ} {end at t from to : ℕ} (A : At s end at t from to) whe
   rising = omega (arith, A .whole .from-is, A .whole .to-is)
 
 -- a place of a part leaves room for a number
-pub small-place : {s : List ℕ} {place at end : ℕ} → Part s place at end → at < 2 ^ 48
+pub small-place : {s : List ℕ} {place at end : ℕ} → Between s place at end → at < 2 ^ 48
 small-place P = omega (arith, P .rising, P .ends, P .small)
 
-pub small-end : {s : List ℕ} {place at end : ℕ} → Part s place at end → end < 2 ^ 48
+pub small-end : {s : List ℕ} {place at end : ℕ} → Between s place at end → end < 2 ^ 48
 small-end P = omega (arith, P .ends, P .small)
 
 -- what holds of the part up to `end` passes on to the value and to what is left behind it
-module _ {s : List ℕ} {place at end t from to : ℕ} (P : Part s place at end) (A : At s end at t from to) where
+module _ {s : List ℕ} {place at end t from to : ℕ} (P : Between s place at end) (A : At s end at t from to) where
   pub in-the-part : to ≤ end
   in-the-part = omega (arith, A .whole .ends, up-to P)
 
-  pub value-part : Part s at from to
+  pub value-part : Between s at from to
   value-part =
       record { behind = omega (arith, A .whole .from-is); rising = rising A; ends = omega (arith, in-the-part, P .ends); small = P .small }
 
-  pub rest-part : Part s place to end
+  pub rest-part : Between s place to end
   rest-part =
       record { behind = omega (arith, P .behind, A .whole .from-is, rising A); rising = in-the-part; ends = P .ends; small = P .small }
 
@@ -69,7 +69,7 @@ tag-in s end at = getD (take end s) at 0
 abbrev next-in : List ℕ → (end at : ℕ) → ℕ
 next-in s end at = at + 3 + length-at (take end s) at
 
-module _ {s : List ℕ} {place at end : ℕ} (P : Part s place at end) (h : Holder) (ts : List ℕ) (d before : ℕ) where
+module _ {s : List ℕ} {place at end : ℕ} (P : Between s place at end) (h : Holder) (ts : List ℕ) (d before : ℕ) where
   -- nothing: what the tags have together answers
   pub rest-none : {x : Result (Unit {0})} → end ≤ at → x ≡ sound (complete h ts) place → RestSaid h ts d before place at (slice at end s) x
   rest-none l e = record { is = e ∙ sym (rest-nothing (take end s) h ts d before place at (omega (arith, up-to P))) }

@@ -18,7 +18,7 @@ module _ (t : ℕ) where
   unfolding allowed
   fragment-high h = simp (le-leb 1 t h)
 
-  -- a text, an anchor and a 16, after the tag before
+  -- an anchor and a 16, after the tag before
   module _ (before : ℕ) where
     pub anchor-later : (before ≡ 0 → ⊥) → eqb t 1 ≡ allowed in-anchor before t
     unfolding allowed

@@ -1,17 +1,17 @@
--- The fields of a text and of an anchor, in the order in which the code reads them.
+-- The fields of a text, in the order in which the code reads them.
 use Rattle.rules.proofs.Basics.{_≡_, _∙_, List, [], _∷_, _++_, false, ℕ, _+_, _≤_, _<_, leb, eqb, ne-eqb, eq-eqb, getD}
 use lib.Seq.{slice}
 use Rattle.rules.specs.Result.{Result, refused, accepted, sound}
 use Rattle.rules.specs.Walk.{in-text, in-styles, allowed, text-content}
 use Rattle.verify.specs.Fronts.{no-field}
-use Rattle.verify.specs.Walked.{RestSaid, ValueSaid, Part, TextLeft}
+use Rattle.verify.specs.Walked.{RestSaid, ValueSaid, Between, TextLeft}
 use Rattle.verify.proofs.SaidLaws.{Faulty}
 use Rattle.verify.proofs.SeenLaws.{whole-text, nothing-more, a-style, first-style-allowed}
 use Rattle.verify.proofs.ValueLaws.{text-value, styles-value}
 use Rattle.verify.proofs.RestLaws.{At, begins, tag-there, rest-part, rest-none, rest-wrong, whole-wrong, whole-stops, whole-on}
 
 -- the field where a 17 has to stand
-module _ {s : List ℕ} {place at end : ℕ} (P : Part s place at end) {t from to : ℕ} (A : At s end at t from to) (d before : ℕ) (ts : List ℕ) (L : TextLeft before ts s at end) where
+module _ {s : List ℕ} {place at end : ℕ} (P : Between s place at end) {t from to : ℕ} (A : At s end at t from to) (d before : ℕ) (ts : List ℕ) (L : TextLeft before ts s at end) where
   wanted : allowed in-text before t ≡ eqb t 17
   wanted = rw (tag-there A) at (L .one-wanted (A .inside))
 
@@ -36,7 +36,7 @@ module _ {s : List ℕ} {place at end : ℕ} (P : Part s place at end) {t from t
       not-last-text l w = behind (rest-wrong (rest-part P A) in-text _ d t l (rw e (nothing-more (getD s to 0))) w)
 
 -- a 16 before it
-module _ {s : List ℕ} {place at end : ℕ} (P : Part s place at end) {t from to : ℕ} (A : At s end at t from to) (d : ℕ) (e : t ≡ 16) {y : Result (Unit {0})}
+module _ {s : List ℕ} {place at end : ℕ} (P : Between s place at end) {t from to : ℕ} (A : At s end at t from to) (d : ℕ) (e : t ≡ 16) {y : Result (Unit {0})}
     (R : RestSaid in-styles [] d 0 at from (slice from to s) y) where
   styles : ValueSaid t d at (slice from to s) y
   styles = styles-value d at (slice from to s) (begins A) e R

@@ -36,7 +36,7 @@ pub record RestSaid (h : Holder) (ts : List ℕ) (d before place at : ℕ) (r : 
 -- ---- what they ask for
 
 -- the bytes of s from `from` to `end`, held by what stands at `place`; places leave room for a number
-pub record Part (s : List ℕ) (place from end : ℕ) : Type 0 where
+pub record Between (s : List ℕ) (place from end : ℕ) : Type 0 where
   pub behind : place ≤ from
   pub rising : from ≤ end
   pub ends : end ≤ length s
@@ -45,7 +45,7 @@ pub record Part (s : List ℕ) (place from end : ℕ) : Type 0 where
 -- a node of the tag t at `at` of s, up to `to`
 pub record Node (s : List ℕ) (t at to : ℕ) : Type 0 where
   pub right-tag : allowed in-fragment 0 t ≡ true
-  pub value : Part s at (at + 3) to
+  pub value : Between s at (at + 3) to
 
 -- one that is no block
 pub record Leaf (s : List ℕ) (t at to : ℕ) : Type 0 where

@@ -11,14 +11,14 @@ ghost use lib.Seq.{slice};
 ghost use Rattle.rules.specs.Result.{sound};
 ghost use Rattle.rules.specs.Walk.{text-content, anchor-content};
 ghost use Rattle.verify.specs.Said.{verdict};
-ghost use Rattle.verify.specs.Walked.{Part};
+ghost use Rattle.verify.specs.Walked.{Between};
 
 // No byte of ASCII is this one.
 pub const NONE: u8 = 255;
 
 // The bytes of a text whose field stands at `place`. Most are short and ASCII, which a quick look finds.
 pub fn check_text(s: &[u8], from: usize, to: usize, place: usize) -> Verdict
-    requires { ⌜ Part (now s) place from to ⌝ }
+    requires { ⌜ Between (now s) place from to ⌝ }
     ensures { λ r. ⌜ verdict r ≡ sound (text-content (slice from to (now (s .entry)))) place ⌝ }
 {
     if calm(s, from, to, NONE) {
@@ -32,7 +32,7 @@ pub fn check_text(s: &[u8], from: usize, to: usize, place: usize) -> Verdict
 
 // An anchor's name. UTF-8 comes before the quote.
 pub fn check_name(s: &[u8], from: usize, to: usize, place: usize) -> Verdict
-    requires { ⌜ Part (now s) place from to ⌝ }
+    requires { ⌜ Between (now s) place from to ⌝ }
     ensures { λ r. ⌜ verdict r ≡ sound (anchor-content (slice from to (now (s .entry)))) place ⌝ }
 {
     if calm(s, from, to, b'"') {

@@ -25,11 +25,11 @@ ghost use Rattle.rules.specs.Result.{accepted};
 ghost use Rattle.rules.specs.Walk.{in-text, in-anchor, in-styles};
 ghost use Rattle.looks.specs.Calm.{Says};
 ghost use Rattle.verify.specs.Said.{verdict};
-ghost use Rattle.verify.specs.Walked.{RestSaid, ValueSaid, Part, Colour, TextLeft, Named};
+ghost use Rattle.verify.specs.Walked.{RestSaid, ValueSaid, Between, Colour, TextLeft, Named};
 
 // The fields of a 16.
 fn check_styles(s: &[u8], from: usize, end: usize, place: usize) -> Verdict
-    requires { ⌜ Part (now s) place from end ⌝ }
+    requires { ⌜ Between (now s) place from end ⌝ }
     ensures { λ r. ⌜ ((d : ℕ) → RestSaid in-styles [] d 0 place from (slice from end (now (s .entry))) (verdict r)) ⌝ }
 {
     let mut at = from;
@@ -71,7 +71,7 @@ fn is_colour(s: &[u8], from: usize, end: usize) -> bool
 
 // The fields of a 16, a colour alone by one look.
 fn check_style_fields(s: &[u8], from: usize, end: usize, place: usize) -> Verdict
-    requires { ⌜ Part (now s) place from end ⌝ }
+    requires { ⌜ Between (now s) place from end ⌝ }
     ensures { λ r. ⌜ ((d : ℕ) → RestSaid in-styles [] d 0 place from (slice from end (now (s .entry))) (verdict r)) ⌝ }
 {
     if is_colour(s, from, end) {
@@ -82,7 +82,7 @@ fn check_style_fields(s: &[u8], from: usize, end: usize, place: usize) -> Verdic
 
 // The 17 of a text, which is next or missing, and nothing behind it.
 fn check_last(s: &[u8], at: usize, end: usize, place: usize) -> Verdict
-    requires { ⌜ Part (now s) place at end ⌝ }
+    requires { ⌜ Between (now s) place at end ⌝ }
     ensures { λ r. ⌜ ((d before : ℕ) (ts : List ℕ) → TextLeft before ts (now (s .entry)) at end → RestSaid in-text ts d before place at (slice at end (now (s .entry))) (verdict r)) ⌝ }
 {
     if at == end {
@@ -107,7 +107,7 @@ fn check_last(s: &[u8], at: usize, end: usize, place: usize) -> Verdict
 
 // A text that begins with a 16.
 fn check_styled(s: &[u8], from: usize, end: usize, place: usize) -> Verdict
-    requires { ⌜ Part (now s) place from end × ((from < end) × (getD (now s) from 0 ≡ 16)) ⌝ }
+    requires { ⌜ Between (now s) place from end × ((from < end) × (getD (now s) from 0 ≡ 16)) ⌝ }
     ensures { λ r. ⌜ ((d : ℕ) → RestSaid in-text [] d 0 place from (slice from end (now (s .entry))) (verdict r)) ⌝ }
 {
     let f = field_in(s, from, end);
@@ -123,7 +123,7 @@ fn check_styled(s: &[u8], from: usize, end: usize, place: usize) -> Verdict
 
 // The fields of a text: an optional 16, then one 17.
 pub fn check_text_fields(s: &[u8], from: usize, end: usize, place: usize) -> Verdict
-    requires { ⌜ Part (now s) place from end ⌝ }
+    requires { ⌜ Between (now s) place from end ⌝ }
     ensures { λ r. ⌜ ((d : ℕ) → RestSaid in-text [] d 0 place from (slice from end (now (s .entry))) (verdict r)) ⌝ }
 {
     if from < end {
@@ -136,7 +136,7 @@ pub fn check_text_fields(s: &[u8], from: usize, end: usize, place: usize) -> Ver
 
 // The texts of an anchor, behind its name.
 fn check_runs(s: &[u8], from: usize, end: usize, place: usize) -> Verdict
-    requires { ⌜ Part (now s) place from end ⌝ }
+    requires { ⌜ Between (now s) place from end ⌝ }
     ensures { λ r. ⌜ ((d before : ℕ) (ts : List ℕ) → Named before ts → RestSaid in-anchor ts d before place from (slice from end (now (s .entry))) (verdict r)) ⌝ }
 {
     let mut at = from;
@@ -159,7 +159,7 @@ fn check_runs(s: &[u8], from: usize, end: usize, place: usize) -> Verdict
 
 // The fields of an anchor: its name, then texts.
 pub fn check_anchor_fields(s: &[u8], from: usize, end: usize, place: usize) -> Verdict
-    requires { ⌜ Part (now s) place from end ⌝ }
+    requires { ⌜ Between (now s) place from end ⌝ }
     ensures { λ r. ⌜ ((d : ℕ) → RestSaid in-anchor [] d 0 place from (slice from end (now (s .entry))) (verdict r)) ⌝ }
 {
     if from == end {
@@ -181,7 +181,7 @@ pub fn check_anchor_fields(s: &[u8], from: usize, end: usize, place: usize) -> V
 
 // A text of one short 17 in ASCII, as most are; `false` says nothing. The node of the tag stands from `at` to `to`.
 pub fn is_quick(s: &[u8], at: usize, to: usize, tag: u8) -> bool
-    requires { ⌜ Part (now s) at (at + 3) to ⌝ }
+    requires { ⌜ Between (now s) at (at + 3) to ⌝ }
     ensures { λ r. ⌜ Says r ((d : ℕ) → ValueSaid tag d at (slice (at + 3) to (now (s .entry))) (accepted tt)) ⌝ }
 {
     if tag != 1 {

@@ -24,7 +24,7 @@ ghost use Rattle.rules.specs.Answers.{check-answer};
 ghost use Rattle.rules.specs.Result.{said, refusal, refused};
 ghost use Rattle.rules.proofs.Refused.{Fault};
 ghost use Rattle.verify.specs.Said.{verdict};
-ghost use Rattle.verify.specs.Walked.{RestSaid, ValueSaid, Part, Node, Leaf};
+ghost use Rattle.verify.specs.Walked.{RestSaid, ValueSaid, Between, Node, Leaf};
 
 // The value of a node that is no block: the node stands from `at` to `to`.
 fn check_leaf(s: &[u8], at: usize, to: usize, tag: u8) -> Verdict
@@ -66,7 +66,7 @@ fn check_node(s: &[u8], at: usize, to: usize, tag: u8, depth: usize) -> Verdict
 
 // The nodes of a fragment, inside `depth` blocks.
 fn check_fragment(s: &[u8], from: usize, end: usize, depth: usize) -> Verdict
-    requires { ⌜ Part (now s) 0 from end ⌝ }
+    requires { ⌜ Between (now s) 0 from end ⌝ }
     ensures { λ r. ⌜ RestSaid in-fragment [] depth 0 0 from (slice from end (now (s .entry))) (verdict r) ⌝ }
 {
     let mut at = from;
@@ -89,7 +89,7 @@ fn check_fragment(s: &[u8], from: usize, end: usize, depth: usize) -> Verdict
 
 // The fragments of a block, inside `depth` blocks with it.
 fn check_block(s: &[u8], from: usize, end: usize, depth: usize) -> Verdict
-    requires { ⌜ Part (now s) 0 from end ⌝ }
+    requires { ⌜ Between (now s) 0 from end ⌝ }
     ensures { λ r. ⌜ RestSaid in-block [] depth 0 0 from (slice from end (now (s .entry))) (verdict r) ⌝ }
 {
     let mut at = from;

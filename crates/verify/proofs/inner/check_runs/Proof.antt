@@ -3,7 +3,7 @@ use Rattle.rules.proofs.Basics.{refl, sym, _∙_, ⊎-elim, List, ℕ, _-_, ari
 use lib.Seq.{slice}
 use Rattle.rules.specs.Walk.{in-anchor}
 use Rattle.verify.specs.Said.{verdict}
-use Rattle.verify.specs.Walked.{Part, RestSaid, Named}
+use Rattle.verify.specs.Walked.{Between, RestSaid, Named}
 use Rattle.verify.proofs.SaidLaws.{sound-said, faulty-said}
 use Rattle.verify.proofs.SeenLaws.{named-next, named-more, whole-anchor}
 use Rattle.verify.proofs.ValueLaws.{run-value}
@@ -14,7 +14,7 @@ use Rattle.verify.proofs.inner.check_runs.Tie as tie
 
 abbrev Inv-loop : tie.InvT-loop
 Inv-loop s from end place at₀ at =
-    Part s place at end
+    Between s place at end
     × ((d before : ℕ) (ts : List ℕ) → Named before ts → Come Named in-anchor d s place end at (RestSaid in-anchor ts d before place from (slice from end s)))
 
 abbrev μ-loop : tie.MeasureT-loop

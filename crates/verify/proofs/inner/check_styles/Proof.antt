@@ -2,7 +2,7 @@
 use Rattle.rules.proofs.Basics.{sym, _∙_, ⊎-elim, [], ℕ, _-_, arith, not-true, not-false, needs}
 use lib.Seq.{slice}
 use Rattle.rules.specs.Walk.{in-styles}
-use Rattle.verify.specs.Walked.{Part, RestSaid}
+use Rattle.verify.specs.Walked.{Between, RestSaid}
 use Rattle.verify.proofs.Parts.{sliced}
 use Rattle.verify.proofs.TagLaws.{styles-tags}
 use Rattle.verify.proofs.SaidLaws.{not-right, right-said}
@@ -14,7 +14,7 @@ use Rattle.verify.proofs.inner.check_styles.Statement.{statement}
 use Rattle.verify.proofs.inner.check_styles.Tie as tie
 
 abbrev Inv-loop : tie.InvT-loop
-Inv-loop s from end place at₀ seen₀ at seen = Part s place at end × ((d : ℕ) → Come (SeenBy seen) in-styles d s place end at (RestSaid in-styles [] d 0 place from (slice from end s)))
+Inv-loop s from end place at₀ seen₀ at seen = Between s place at end × ((d : ℕ) → Come (SeenBy seen) in-styles d s place end at (RestSaid in-styles [] d 0 place from (slice from end s)))
 
 abbrev μ-loop : tie.MeasureT-loop
 μ-loop s from end place at₀ seen₀ at seen = end - at

@@ -2,7 +2,7 @@
 use Rattle.rules.proofs.Basics.{refl, sym, _∙_, ⊎-elim, [], ℕ, _+_, _*_, _-_, _≤_, arith, eq-eqb, ne-eqb, not-true, not-false, needs}
 use lib.Seq.{slice}
 use borrow.Fn.PlainCycle.{Measures}
-use Rattle.rules.specs.Walk.{in-fragment, in-block}
+use Rattle.rules.specs.Walk.{in-fragment, in-block, complete}
 use Rattle.fields.proofs.Cycles.{at, below}
 use Rattle.verify.specs.Said.{verdict}
 use Rattle.verify.specs.Walked.{RestSaid}
@@ -10,7 +10,7 @@ use Rattle.verify.proofs.Parts.{part-anywhere}
 use Rattle.verify.proofs.SaidLaws.{sound-said, faulty-said}
 use Rattle.verify.proofs.ValueLaws.{piece-value, block-value, deep-value}
 use Rattle.verify.proofs.RestLaws.{field-there, begins, rising, small-place, small-end, value-part, in-the-part}
-use Rattle.verify.proofs.LoopLaws.{Come, Any, come-first, come-last, come-short, come-wrong, come-stops, come-on, piece-next, node-next, whole-block, whole-fragment}
+use Rattle.verify.proofs.LoopLaws.{Come, Any, come-first, come-last, come-short, come-wrong, come-stops, come-on, piece-next, node-next, nothing-asked}
 use Rattle.verify.proofs.walk.check_block.Reads as check-block
 use Rattle.verify.proofs.walk.check_block.Kinds as check-block-kinds
 use Rattle.verify.proofs.walk.+check_block+check_fragment+check_node.Lts-check_block as check-block-lts
@@ -59,7 +59,7 @@ pub +check-block+check-fragment+check-node-spec : {M : Type 1} → statement M
     (λ c. let w = c .before .before .before .before in let g = w .before .before in let l = g .before .before .loop in let P = l .inv .1 .part in let A = field-there P (g .field-in .ensures) (w .f .given .1) in let h = in-the-part P A in let r = rising A in let q = begins A in omega (arith, h, r, q))
     (λ c. let w = c .before .before .before .before in let g = w .before .before in let l = g .before .before .loop in let P = l .inv .1 .part in let A = field-there P (g .field-in .ensures) (w .f .given .1) in let h = in-the-part P A in let r = rising A in let q = begins A in let f = l .inv .0 in let e = c .before .before .if1 .left in
     (omega (arith, f, r, q), come-on (l .inv .1) A (sym (piece-next _ _) ∙ eq-eqb _ 8 e) (rw (sound-said (c .if2 .left)) at (piece-value _ _ _ (begins A) e (c .before .check-fragment .ensures))) tt))
-    (λ c. unfold verdict in come-last (c .before .loop .inv .1) (c .loop-test .left) (whole-block _ _ refl)))
+    (λ c. unfold verdict complete in let C = c .before .loop .inv .1 in come-last C (c .loop-test .left) (nothing-asked in-block (C .so-far) 0 refl refl)))
     (λ t. check-fragment-lts.spec
     (field-in.Asked, field-in.Learnt, in-fragment-reads.Asked, in-fragment-reads.Learnt, no-field-reads.Asked, no-field-reads.Learnt, fault-reads.Asked, fault-reads.Learnt, below 1 check-node-kinds.ps μ-node check-node.Pre t, check-node.Post)
     (at 1 check-fragment-kinds.ps μ-fragment check-fragment.Pre t) check-fragment.Post
@@ -79,7 +79,7 @@ pub +check-block+check-fragment+check-node-spec : {M : Type 1} → statement M
     (λ c. let w = c .before .before .before .before .before in let g = w .before .before in let l = g .before .before .loop in let P = l .inv .1 .part in let A = field-there P (g .field-in .ensures) (w .f .given .1) in let h = in-the-part P A in let r = rising A in let q = begins A in omega (arith, h, r, q))
     (λ c. let w = c .before .before .before .before .before in let g = w .before .before in let l = g .before .before .loop in let P = l .inv .1 .part in let A = field-there P (g .field-in .ensures) (w .f .given .1) in let h = in-the-part P A in let r = rising A in let q = begins A in let f = l .inv .0 in let a = sym (c .before .before .before .in-fragment2 .ensures ∙ node-next _ _) ∙ not-false _ (c .before .before .if1 .left) in
     (omega (arith, f, r, q), come-on (l .inv .1) A a (rw (begins A, sound-said (c .if2 .left)) at (c .before .check-node .ensures)) tt))
-    (λ c. unfold verdict in come-last (c .before .loop .inv .1) (c .loop-test .left) (whole-fragment _ _ refl)))
+    (λ c. unfold verdict complete in let C = c .before .loop .inv .1 in come-last C (c .loop-test .left) (nothing-asked in-fragment (C .so-far) 0 refl refl)))
     λ t. check-node-lts.spec (is-quick.Asked, is-quick.Learnt, is-block.Asked, is-block.Learnt, check-leaf.Asked, check-leaf.Learnt, fault-reads.Asked, fault-reads.Learnt, below 1 check-block-kinds.ps μ-block check-block.Pre t, check-block.Post)
     (at 1 check-node-kinds.ps μ-node check-node.Pre t) check-node.Post (λ c κs. c .before .pre .1 .value) (λ c. unfold verdict in c .before .is-quick .ensures .says (c .if1 .taken) _) (λ c κs. search needs)
     (λ c κs. record { node = c .before .before .before .before .before .pre .1; no-block = sym (c .before .is-block .ensures) ∙ not-true _ (c .if2 .taken) }) (λ c. c .check-leaf .ensures _)
