@@ -1,5 +1,5 @@
 -- The content of a value of bytes, by its tag and by what the tests say.
-use Rattle.rules.proofs.Basics.{_≡_, refl, sym, _∙_, List, Bool, true, false, ℕ, _+_, _-_, _*_, _≤_, _<_, arith, leb, length, getD, take, drop, le-leb, lt-leb, ne-eqb, eq-eqb, eqb-true}
+use Rattle.rules.proofs.Basics.{_≡_, refl, sym, _∙_, List, Bool, true, false, ℕ, _+_, _-_, _*_, _≤_, _<_, arith, leb, eqb, length, getD, take, drop, le-leb, lt-leb, ne-eqb, eq-eqb, eqb-true}
 use lib.Seq.{slice}
 use Rattle.rules.proofs.Lengths.{number-one, number-four}
 use Rattle.rules.specs.Limits.{first-style}
@@ -101,13 +101,9 @@ module _ (b : ℕ) where
 -- ---- a style's field, by its tag
 
 module _ (t : ℕ) (v : List ℕ) where
-  pub opacity-length : t ≡ 33 → right-length t (length v) ≡ true → length v ≡ 4
-  unfolding right-length
-  opacity-length e h = eqb-true (length v) 4 (rw e at h)
-
-  pub size-length : t ≡ 35 → right-length t (length v) ≡ true → length v ≡ 1
-  unfolding right-length
-  size-length e h = eqb-true (length v) 1 (rw e at h)
+  -- a field whose length is fixed
+  pub fixed-length : (k n : ℕ) → ((m : ℕ) → right-length k m ≡ eqb m n) → t ≡ k → right-length t (length v) ≡ true → length v ≡ n
+  fixed-length k n f e h = eqb-true (length v) n (sym (f (length v)) ∙ rw e at h)
 
   module _ (p : ℕ) where
     pub length-wrong : right-length t (length v) ≡ false → refused 5 p ≡ style-verdict t v p
