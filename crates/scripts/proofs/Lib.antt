@@ -1,0 +1,3 @@
+-- Theorems about a writer's steps.
+pub mod BytesLaws
+pub mod Joined
