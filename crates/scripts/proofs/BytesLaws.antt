@@ -4,7 +4,7 @@ use Rattle.rules.specs.Tree.{Run, Leaf, text, anchor, Kind, Frag, stop, leaf, b
 use Rattle.rules.specs.Encode.{field, encode, encode-fields, frag-fields, frags-fields, runs-fields, block-tag, anchor-tag}
 use Rattle.rules.proofs.Turned.{encode-leaf, leaf-bytes}
 use Rattle.scripts.specs.Joins.{_⧺_, join-space, join-comma-sep}
-use Rattle.scripts.specs.Script.{Nodes, no-nodes, node, Node, lone, blocked, spaced-join, comma-join, Header, given, written, Entries, no-entries, entry, onto, node-onto, header-tree, entries-onto, tree-of}
+use Rattle.scripts.specs.Script.{Nodes, no-nodes, node, Node, lone, blocked, spaced-join, comma-join, given, written, Entries, no-entries, entry, onto, node-onto, header-tree, entries-onto, tree-of}
 use Rattle.scripts.specs.Shown.{nodes-bytes, header-bytes, run-bytes, runs-bytes, entries-bytes}
 
 -- ---- trees
@@ -63,8 +63,7 @@ node-append (comma-join p es s) r = sym (nodes-assoc (header-tree p) _ r)
 pub onto-append : (n : Nodes) (r : Frag ℕ) → onto n r ≡ tree-of n ⧺ r
 unfolding onto tree-of _⧺_
 onto-append no-nodes r = refl
-onto-append (node n x) r =
-    onto-append n (node-onto x r) ∙ ap (tree-of n ⧺_) (node-append x r) ∙ sym (nodes-assoc (tree-of n) (node-onto x stop) r) ∙ ap (_⧺ r) (sym (onto-append n (node-onto x stop)))
+onto-append (node n x) r = rw (onto-append n (node-onto x r), node-append x r, onto-append n (node-onto x stop), nodes-assoc)
 
 -- the tree and the bytes of one node more
 pub tree-more : (n : Nodes) (x : Node) → tree-of (node n x) ≡ tree-of n ⧺ node-onto x stop

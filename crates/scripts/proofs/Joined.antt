@@ -1,12 +1,12 @@
 -- The bytes of a join's entries and of the joins: what a writer has put when a join is ended is the encoding of 000's tree.
-use Rattle.rules.proofs.Basics.{_≡_, refl, ap, _∙_, List, [], _∷_, _++_, append-assoc, append-nil, ℕ}
-use Rattle.rules.specs.Tree.{Run, text, space, if-block, Frag, stop, leaf, block, Frags, none-left, frag, flexible}
+use Rattle.rules.proofs.Basics.{_≡_, refl, ap, List, [], _++_, append-assoc, append-nil, ℕ}
+use Rattle.rules.specs.Tree.{Run, Frag, stop, Frags, none-left, frag}
 use Rattle.rules.specs.Encode.{field, encode, block-tag}
 use Rattle.rules.proofs.Turned.{leaf-bytes}
 use Rattle.scripts.specs.Joins.{_⧺_, after-spaces, with-commas, join-space, join-comma-sep, then-comma, last-comma, unstyled, comma}
-use Rattle.scripts.specs.Script.{spaced, commas, Nodes, Node, lone, spaced-join, comma-join, Header, Entries, no-entries, entry, onto, node-onto, header-tree, entries-onto, tree-of, text-node}
+use Rattle.scripts.specs.Script.{spaced, commas, Nodes, spaced-join, comma-join, Header, Entries, no-entries, entry, onto, node-onto, entries-onto, tree-of, text-node}
 use Rattle.scripts.specs.Shown.{nodes-bytes, header-bytes, run-bytes, joined-bytes, done-entry}
-use Rattle.scripts.proofs.BytesLaws.{frags-bytes, no-frags, frag-first, encode-append, leaf-first, block-first, stop-bytes, text-bytes, lone-bytes}
+use Rattle.scripts.proofs.BytesLaws.{frags-bytes, no-frags, frag-first, encode-append, leaf-first, block-first, stop-bytes, text-bytes}
 
 -- ---- entries, none of which is the last
 
@@ -74,5 +74,6 @@ unfolding entries-onto with-commas nodes-bytes tree-of
 commas-bytes es m = simp (comma-entries es (onto m stop) none-left, frag-first, no-frags, append-nil, last-comma-bytes)
 
 pub comma-join-bytes : (p : Header) (es : Entries) (m : Nodes) (s : Run ℕ)
-    → encode (node-onto (comma-join p (entry es m) s) stop) ≡ header-bytes p ++ (field 4 (joined-bytes commas es ++ field 8 (nodes-bytes m ++ field 7 comma)) ++ run-bytes s)
+    → encode (node-onto (comma-join p (entry es m) s) stop)
+    ≡ header-bytes p ++ (field 4 (joined-bytes commas es ++ field 8 (nodes-bytes m ++ field 7 comma)) ++ run-bytes s)
 comma-join-bytes p es m s = comma-join-as p (entry es m) s _ (commas-bytes es m)

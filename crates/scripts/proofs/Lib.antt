@@ -1,3 +1,5 @@
 -- Theorems about a writer's steps.
 pub mod BytesLaws
 pub mod Joined
+pub mod Ways
+pub mod Told
