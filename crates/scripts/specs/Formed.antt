@@ -1,5 +1,6 @@
 -- What a style says by its type: its tags rise and its lengths are right. The code's style is a record of flags and values, whose fields are so (`scribe`).
 use mathlib.Core.Path.{_≡_}
+use mathlib.Core.List.{List, [], _∷_}
 use mathlib.Core.Option.{Option, none, some}
 use mathlib.Core.Bool.{true}
 use Prim.Native.Nat.{ℕ}
@@ -36,3 +37,7 @@ Formed (begin-join j h) = Formed-header h
 Formed next-entry = Unit {0}
 Formed end-space-join = Unit {0}
 Formed (end-comma-join r) = Formed-style (r .style)
+
+abbrev pub AllFormed : List Step → Type 0
+AllFormed [] = Unit {0}
+AllFormed (x ∷ xs) = Formed x × AllFormed xs
