@@ -3,3 +3,6 @@ pub mod BytesLaws
 pub mod Joined
 pub mod Ways
 pub mod Told
+pub mod Longer
+pub mod Checked
+pub mod Back

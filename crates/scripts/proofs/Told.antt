@@ -1,5 +1,5 @@
 -- A writer's state and the steps that it took are one and the same: each step taken adds itself, and a finished writer's steps are the telling of its nodes.
-use Rattle.rules.proofs.Basics.{_≡_, refl, sym, ap, _∙_, List, [], _∷_, _++_, append-assoc, append-nil, some, true, false, ℕ}
+use Rattle.rules.proofs.Basics.{_≡_, refl, sym, ap, _∙_, List, [], _∷_, _++_, append-assoc, append-nil, some, false, ℕ}
 use Rattle.rules.specs.Result.{accepted}
 use Rattle.rules.specs.Tree.{Run}
 use Rattle.rules.proofs.Chains.{bind-inv}
