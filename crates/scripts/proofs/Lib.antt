@@ -6,3 +6,5 @@ pub mod Told
 pub mod Longer
 pub mod Checked
 pub mod Back
+pub mod Loose
+pub mod Accepted
