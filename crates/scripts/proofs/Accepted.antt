@@ -18,14 +18,11 @@ use Rattle.scripts.specs.Formed.{Formed, AllFormed}
 use Rattle.scripts.proofs.BytesLaws.{tree-more}
 use Rattle.scripts.proofs.Checked.{all-split}
 use Rattle.scripts.proofs.Ways.{InJoin, none-yet, in-entry, Goes, g-text, g-run, g-space, g-force, g-conditional, g-open-anchor, g-close-anchor, g-open-block, g-close-block, g-open-fragment, g-close-fragment, g-given, g-written, g-next, g-spaced, g-commas, goes, taken, finish-inv}
-use Rattle.scripts.proofs.Loose.{Loose, loose-good, loose-append, loose-frag, Tested, loose-text, AllTested, all-tested, loose-anchor, loose-space, loose-force, loose-conditional, loose-block}
+use Rattle.scripts.proofs.Loose.{loose-good, Done, BlockDone, done-stop, done-append, done-leaf, done-none, done-frag, Tested, done-text, AllTested, all-tested, done-anchor, done-space, done-force, done-conditional, done-block}
 
 -- ---- what holds of all that is done
 
--- of the nodes of a fragment inside d blocks
-abbrev Done : ℕ → Frag ℕ → Type 0
-Done d f = Loose holds-fragment d 0 (frag-fields f)
-
+-- inside d blocks
 abbrev NodesDone : ℕ → Nodes → Type 0
 NodesDone d no-nodes = Unit {0}
 NodesDone d (node n x) = NodesDone d n × Done d (node-onto x stop)
@@ -49,49 +46,48 @@ Fine (begun a n j h) = AroundDone (in-join a n j h no-entries)
 
 -- ---- as the tree that it becomes
 
-nodes-done : (n : Nodes) (d : ℕ) → NodesDone d n → Done d (tree-of n)
-unfolding tree-of onto frag-fields
-nodes-done no-nodes d h = tt
-nodes-done (node n x) d h = rw (tree-more n x) (loose-append (tree-of n) (node-onto x stop) d 0 (nodes-done n d (h .0)) (h .1))
-
-abbrev BlockDone : ℕ → Frags ℕ → Type 0
-BlockDone d fs = Loose holds-block d 0 (frags-fields fs)
-
-no-frags-done : (d : ℕ) → BlockDone d none-left
-unfolding frags-fields
-no-frags-done d = tt
+nodes-done : {d : ℕ} (n : Nodes) → NodesDone d n → Done d (tree-of n)
+unfolding tree-of onto
+nodes-done no-nodes h = done-stop
+nodes-done (node n x) h = rw (tree-more n x) (done-append (nodes-done n (h .0)) (h .1))
 
 -- entries, as the fragments that a function of these makes of them
-entries-done : (make : Frags ℕ → Frags ℕ) (d : ℕ) → ((f : Frag ℕ) (fs : Frags ℕ) → Done d f → BlockDone d (make fs) → BlockDone d (make (frag f fs)))
+entries-done : {d : ℕ} (make : Frags ℕ → Frags ℕ) → ((f : Frag ℕ) (fs : Frags ℕ) → Done d f → BlockDone d (make fs) → BlockDone d (make (frag f fs)))
     → (es : Entries) (fs : Frags ℕ) → EntriesDone d es → BlockDone d (make fs) → BlockDone d (make (entries-onto es fs))
 unfolding entries-onto tree-of
-entries-done make d one no-entries fs h g = g
-entries-done make d one (entry es n) fs h g = entries-done make d one es (frag (onto n stop) fs) (h .0) (one (onto n stop) fs (nodes-done n d (h .1)) g)
+entries-done make one no-entries fs h g = g
+entries-done make one (entry es n) fs h g = entries-done make one es (frag (onto n stop) fs) (h .0) (one (onto n stop) fs (nodes-done n (h .1)) g)
 
 -- those of a block, of a space join, of a comma join
-plain-done : (d : ℕ) (es : Entries) → EntriesDone d es → BlockDone d (entries-onto es none-left)
-plain-done d es h = entries-done (λ fs. fs) d (λ f fs u v. loose-frag f fs d u v) es none-left h (no-frags-done d)
+plain-done : {d : ℕ} (es : Entries) → EntriesDone d es → BlockDone d (entries-onto es none-left)
+plain-done es h = entries-done (λ fs. fs) (λ f fs. done-frag) es none-left h done-none
 
-spaced-done : (d : ℕ) (es : Entries) → EntriesDone d es → BlockDone d (after-spaces (entries-onto es none-left))
-unfolding after-spaces _⧺_
-spaced-done d es h = entries-done after-spaces d
-    (λ f fs u v. loose-frag (leaf space f) (after-spaces fs) d (loose-append (leaf space stop) f d 0 (loose-space d) u) v) es none-left h (no-frags-done d)
+spaced-done : {d : ℕ} (es : Entries) → EntriesDone d es → BlockDone d (after-spaces (entries-onto es none-left))
+unfolding after-spaces
+spaced-done es h = entries-done after-spaces (λ f fs u v. done-frag (done-leaf done-space u) v) es none-left h done-none
 
 comma-tested : Tested (unstyled comma)
 unfolding all-open run-checks style-checks
 comma-tested = (tt, (refl, tt))
 
-with-comma : (d : ℕ) (f : Frag ℕ) (fs : Frags ℕ) → Done d f → BlockDone d (with-commas fs) → BlockDone d (with-commas (frag f fs))
-unfolding with-commas _⧺_ run-checks style-checks
-with-comma d f none-left u v =
-    loose-frag (last-comma f) none-left d (loose-append f (leaf (if-block comma) stop) d 0 u (loose-conditional comma d (comma-tested .1))) (no-frags-done d)
-with-comma d f (frag g gs) u v =
-    let c : Done d (text-node (unstyled comma) ⧺ leaf space stop) = loose-append (text-node (unstyled comma)) (leaf space stop) d 0 (loose-text (unstyled comma) d comma-tested) (loose-space d) in
-    loose-frag (then-comma f) (with-commas (frag g gs)) d (loose-append f (leaf (text (unstyled comma)) (leaf space stop)) d 0 u c) v
+done-comma : {d : ℕ} → Done d (leaf (text (unstyled comma)) stop)
+done-comma = done-text comma-tested
 
-commas-done : (d : ℕ) (es : Entries) → EntriesDone d es → BlockDone d (with-commas (entries-onto es none-left))
+done-last : {d : ℕ} → Done d (leaf (if-block comma) stop)
+unfolding run-checks style-checks
+done-last = done-conditional (comma-tested .1)
+
+-- by a search, so that it holds of whatever nodes of these stand behind an entry
+ruleset punctuated = (done-frag, done-none, done-append, done-leaf, done-space, done-comma, done-last)
+
+with-comma : {d : ℕ} (f : Frag ℕ) (fs : Frags ℕ) → Done d f → BlockDone d (with-commas fs) → BlockDone d (with-commas (frag f fs))
 unfolding with-commas
-commas-done d es h = entries-done with-commas d (with-comma d) es none-left h (no-frags-done d)
+with-comma f none-left u v = search punctuated
+with-comma f (frag g gs) u v = search punctuated
+
+commas-done : {d : ℕ} (es : Entries) → EntriesDone d es → BlockDone d (with-commas (entries-onto es none-left))
+unfolding with-commas
+commas-done es h = entries-done with-commas with-comma es none-left h done-none
 
 -- ---- a step that is taken keeps it
 
@@ -102,29 +98,24 @@ join-fine in-entry ((a, n, c, es, h), m) = (a, n, c, (es, m), h)
 
 kept : {x : Step} {s t : Open} → Goes x s t → Formed x → AllHold (checks x (depth-of s)) → Fine s → Fine t
 unfolding checks depth-of depth header-checks node-onto header-tree join-space join-comma-sep _⧺_
-kept (g-text {r} {a}) o c (f, n) = (f, (n, loose-text r (depth a) (o, c)))
+kept g-text o c (f, n) = (f, (n, done-text (o, c)))
 kept (g-run {r} {rs = rs}) o c (f, n, v, h) = (f, n, v, all-tested rs r h (o, c))
-kept (g-space {a}) o c (f, n) = (f, (n, loose-space (depth a)))
-kept (g-force {a}) o c (f, n) = (f, (n, loose-force (depth a)))
-kept (g-conditional {v} {a}) o c (f, n) = (f, (n, loose-conditional v (depth a) c))
+kept g-space o c (f, n) = (f, (n, done-space))
+kept g-force o c (f, n) = (f, (n, done-force))
+kept g-conditional o c (f, n) = (f, (n, done-conditional c))
 kept g-open-anchor o c (f, n) = (f, n, c, tt)
-kept (g-close-anchor {a} {d = k} {v} {rs}) o c (f, n, w, h) = (f, (n, loose-anchor k v rs (depth a) w h))
+kept g-close-anchor o c (f, n, w, h) = (f, (n, done-anchor w h))
 kept g-open-block o c (f, n) = (f, n, c, tt)
-kept (g-close-block {a} {k = k} {es}) o c (f, n, w, h) =
-    (f, (n, loose-block k (entries-onto es none-left) (depth a) w (plain-done (suc (depth a)) es h)))
+kept (g-close-block {es = es}) o c (f, n, w, h) = (f, (n, done-block w (plain-done es h)))
 kept g-open-fragment o c f = (f, tt)
 kept g-close-fragment o c ((f, n, w, h), m) = (f, n, w, (h, m))
-kept (g-given {r = r} {a}) o c (f, n) = let (e, w) = all-split (run-checks r) (depth-checks (depth a)) c in (f, n, w, tt, loose-text r (depth a) (o, e))
+kept (g-given {r = r} {a}) o c (f, n) = let (e, w) = all-split (run-checks r) (depth-checks (depth a)) c in (f, n, w, tt, done-text (o, e))
 kept g-written o c (f, (n, x)) = (f, n, c, tt, x)
 kept (g-next i) o c f = (join-fine i f, tt)
-kept (g-spaced {a = a} {h = h} {es} i) o c f =
+kept (g-spaced {es = es} i) o c f = let (g, n, w, e, p) = join-fine i f in (g, (n, done-append p (done-block w (spaced-done es e))))
+kept (g-commas {es = es} i) o c f =
     let (g, n, w, e, p) = join-fine i f in
-    (g, (n, loose-append (header-tree h) _ (depth a) 0 p (loose-block flexible (after-spaces (entries-onto es none-left)) (depth a) w (spaced-done (suc (depth a)) es e))))
-kept (g-commas {r} {a = a} {h = h} {es} i) o c f =
-    let (g, n, w, e, p) = join-fine i f in
-    let fs : Frags ℕ = with-commas (entries-onto es none-left) in
-    let b : Done (depth a) (block flexible fs stop) = loose-block flexible fs (depth a) w (commas-done (suc (depth a)) es e) in
-    (g, (n, loose-append (header-tree h) _ (depth a) 0 p (loose-append (block flexible fs stop) (text-node r) (depth a) 0 b (loose-text r (depth a) (o, c)))))
+    (g, (n, done-append p (done-append (done-block w (commas-done es e)) (done-text (o, c)))))
 
 abbrev Short : Open → Type 0
 Short s = length (shown s) ≤ most-bytes
@@ -150,4 +141,4 @@ finished-accepted room xs s n o e h =
     let (f, l) = all-kept room xs start s o (tt, tt) start-short e in
     let m : Short (in-fragment root n) = subst Short q l in
     let g : Fine (in-fragment root n) = subst Fine q f in
-    rw q (good-read (tree-of n) (record { short = m; good = loose-good (frag-fields (tree-of n)) holds-fragment 0 0 (nodes-done n 0 (g .1)) (omega arith) }))
+    rw q (good-read (tree-of n) (record { short = m; good = loose-good (frag-fields (tree-of n)) holds-fragment 0 0 (nodes-done n (g .1) .loose) (omega arith) }))

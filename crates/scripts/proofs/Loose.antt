@@ -3,7 +3,7 @@ use Rattle.rules.proofs.Basics.{_≡_, refl, _∙_, List, [], _∷_, _++_, Opti
 use Rattle.rules.specs.Limits.{most-blocks}
 use Rattle.rules.specs.Bytes.{has}
 use Rattle.rules.specs.Walk.{Fields, end, bytes, inside, Holder, in-styles, in-text, in-anchor, in-block, in-fragment, content, text-content, anchor-content, complete, tags, holds, allowed, right-length, is-block}
-use Rattle.rules.specs.Tree.{Run, text, anchor, space, force, if-block, Kind, indented, flexible, Frag, stop, leaf, block, Frags, frag}
+use Rattle.rules.specs.Tree.{Run, Leaf, text, anchor, space, force, if-block, Kind, indented, flexible, Frag, stop, leaf, block, Frags, none-left, frag}
 use Rattle.rules.specs.Encode.{encode-fields, frag-fields, frags-fields, leaf-fields, run-fields, runs-fields, block-tag, anchor-tag}
 use Rattle.rules.specs.Good.{depth-in, AllHold, Good}
 use Rattle.rules.proofs.Typed.{bytes-not}
@@ -47,19 +47,43 @@ unordered h e end d b c g = tt
 unordered h e (bytes t v r) d b c (p, q, k, g) = ((e c b t ∙ p .0, p .1, p .2), q, k, g)
 unordered h e (inside t i r) d b c (p, q, g) = ((e c b t ∙ p .0, p .1, p .2), q, g)
 
-pub loose-append : (f g : Frag ℕ) (d b : ℕ) → Loose in-fragment d b (frag-fields f) → Loose in-fragment d 0 (frag-fields g) → Loose in-fragment d b (frag-fields (f ⧺ g))
+nodes-append : (f g : Frag ℕ) (d b : ℕ) → Loose in-fragment d b (frag-fields f) → Loose in-fragment d 0 (frag-fields g)
+    → Loose in-fragment d b (frag-fields (f ⧺ g))
 unfolding frag-fields leaf-fields _⧺_ allowed
-loose-append stop g d b u v = unordered in-fragment (λ b c t. refl) (frag-fields g) d 0 b v
-loose-append (leaf (text r) f) g d b (p, i, u) v = (p, i, loose-append f g d 1 u v)
-loose-append (leaf (anchor k a rs) f) g d b (p, i, u) v = (p, i, loose-append f g d 2 u v)
-loose-append (leaf space f) g d b (p, q, c, u) v = (p, q, c, loose-append f g d 5 u v)
-loose-append (leaf force f) g d b (p, q, c, u) v = (p, q, c, loose-append f g d 6 u v)
-loose-append (leaf (if-block x) f) g d b (p, q, c, u) v = (p, q, c, loose-append f g d 7 u v)
-loose-append (block k fs f) g d b (p, i, u) v = (p, i, loose-append f g d (block-tag k) u v)
+nodes-append stop g d b u v = unordered in-fragment (λ b c t. refl) (frag-fields g) d 0 b v
+nodes-append (leaf (text r) f) g d b (p, i, u) v = (p, i, nodes-append f g d 1 u v)
+nodes-append (leaf (anchor k a rs) f) g d b (p, i, u) v = (p, i, nodes-append f g d 2 u v)
+nodes-append (leaf space f) g d b (p, q, c, u) v = (p, q, c, nodes-append f g d 5 u v)
+nodes-append (leaf force f) g d b (p, q, c, u) v = (p, q, c, nodes-append f g d 6 u v)
+nodes-append (leaf (if-block x) f) g d b (p, q, c, u) v = (p, q, c, nodes-append f g d 7 u v)
+nodes-append (block k fs f) g d b (p, i, u) v = (p, i, nodes-append f g d (block-tag k) u v)
 
-pub loose-frag : (f : Frag ℕ) (fs : Frags ℕ) (d : ℕ) → Loose in-fragment d 0 (frag-fields f) → Loose in-block d 0 (frags-fields fs) → Loose in-block d 0 (frags-fields (frag f fs))
+-- the nodes of a fragment, and the fragments of a block, inside d blocks
+pub record Done (d : ℕ) (f : Frag ℕ) : Type 0 where
+  pub loose : Loose in-fragment d 0 (frag-fields f)
+
+pub record BlockDone (d : ℕ) (fs : Frags ℕ) : Type 0 where
+  pub loose : Loose in-block d 0 (frags-fields fs)
+
+pub done-stop : {d : ℕ} → Done d stop
+unfolding frag-fields
+done-stop = record { loose = tt }
+
+pub done-append : {d : ℕ} {f g : Frag ℕ} → Done d f → Done d g → Done d (f ⧺ g)
+done-append {d} {f} {g} u v = record { loose = nodes-append f g d 0 (u .loose) (v .loose) }
+
+pub done-leaf : {d : ℕ} {l : Leaf ℕ} {f : Frag ℕ} → Done d (leaf l stop) → Done d f → Done d (leaf l f)
+unfolding _⧺_
+done-leaf u v = done-append u v
+
+pub done-none : {d : ℕ} → BlockDone d none-left
+unfolding frags-fields
+done-none = record { loose = tt }
+
+pub done-frag : {d : ℕ} {f : Frag ℕ} {fs : Frags ℕ} → Done d f → BlockDone d fs → BlockDone d (frag f fs)
 unfolding frags-fields holds allowed right-length is-block complete
-loose-frag f fs d u v = ((refl, refl, refl), (in-fragment, refl, tt, u), unordered in-block (λ b c t. refl) (frags-fields fs) d 0 8 v)
+done-frag {d} {f} {fs} u v =
+    record { loose = ((refl, refl, refl), (in-fragment, refl, tt, u .loose), unordered in-block (λ b c t. refl) (frags-fields fs) d 0 8 (v .loose)) }
 
 -- ---- texts
 
@@ -95,9 +119,9 @@ run-inside r d x = let (c, g) = run-loose (r .style) (r .chars) d x in (in-text,
 
 -- ---- nodes
 
-pub loose-text : (r : Run ℕ) (d : ℕ) → Tested r → Loose in-fragment d 0 (frag-fields (leaf (text r) stop))
+pub done-text : {r : Run ℕ} {d : ℕ} → Tested r → Done d (leaf (text r) stop)
 unfolding frag-fields leaf-fields allowed right-length is-block
-loose-text r d x = ((refl, refl, refl), run-inside r d x, tt)
+done-text {r} {d} x = record { loose = ((refl, refl, refl), run-inside r d x, tt) }
 
 abbrev pub AllTested : List (Run ℕ) → Type 0
 AllTested [] = Unit {0}
@@ -113,26 +137,27 @@ unfolding runs-fields allowed right-length is-block
 runs-loose [] d b e h = tt
 runs-loose (r ∷ rs) d b e h = ((rw e, refl, refl), run-inside r d (h .0), runs-loose rs d 1 refl (h .1))
 
-pub loose-anchor : (k : Bool) (v : List ℕ) (rs : List (Run ℕ)) (d : ℕ) → AllHold (anchor-content v) → AllTested rs
-    → Loose in-fragment d 0 (frag-fields (leaf (anchor k v rs) stop))
+pub done-anchor : {k : Bool} {v : List ℕ} {rs : List (Run ℕ)} {d : ℕ} → AllHold (anchor-content v) → AllTested rs → Done d (leaf (anchor k v rs) stop)
 unfolding frag-fields leaf-fields holds allowed right-length is-block complete tags has anchor-tag content
-loose-anchor true v rs d c h = ((refl, refl, refl), (in-anchor, refl, (refl, tt), ((refl, refl, refl), refl, c, runs-loose rs d 18 refl h)), tt)
-loose-anchor false v rs d c h = ((refl, refl, refl), (in-anchor, refl, (or-true (has 18 (tags (runs-fields rs))), tt), ((refl, refl, refl), refl, c, runs-loose rs d 19 refl h)), tt)
+done-anchor {k = true} {rs = rs} {d} c h =
+    record { loose = ((refl, refl, refl), (in-anchor, refl, (refl, tt), ((refl, refl, refl), refl, c, runs-loose rs d 18 refl h)), tt) }
+done-anchor {k = false} {rs = rs} {d} c h =
+    let named = or-true (has 18 (tags (runs-fields rs))) in
+    record { loose = ((refl, refl, refl), (in-anchor, refl, (named, tt), ((refl, refl, refl), refl, c, runs-loose rs d 19 refl h)), tt) }
 
-pub loose-space : (d : ℕ) → Loose in-fragment d 0 (frag-fields (leaf space stop))
+pub done-space : {d : ℕ} → Done d (leaf space stop)
 unfolding frag-fields leaf-fields holds allowed right-length is-block content
-loose-space d = ((refl, refl, refl), refl, tt, tt)
+done-space = record { loose = ((refl, refl, refl), refl, tt, tt) }
 
-pub loose-force : (d : ℕ) → Loose in-fragment d 0 (frag-fields (leaf force stop))
+pub done-force : {d : ℕ} → Done d (leaf force stop)
 unfolding frag-fields leaf-fields holds allowed right-length is-block content
-loose-force d = ((refl, refl, refl), refl, tt, tt)
+done-force = record { loose = ((refl, refl, refl), refl, tt, tt) }
 
-pub loose-conditional : (v : List ℕ) (d : ℕ) → AllHold (text-content v) → Loose in-fragment d 0 (frag-fields (leaf (if-block v) stop))
+pub done-conditional : {v : List ℕ} {d : ℕ} → AllHold (text-content v) → Done d (leaf (if-block v) stop)
 unfolding frag-fields leaf-fields holds allowed right-length is-block content
-loose-conditional v d c = ((refl, refl, refl), refl, c, tt)
+done-conditional c = record { loose = ((refl, refl, refl), refl, c, tt) }
 
-pub loose-block : (k : Kind) (fs : Frags ℕ) (d : ℕ) → AllHold (depth-checks d) → Loose in-block (suc d) 0 (frags-fields fs)
-    → Loose in-fragment d 0 (frag-fields (block k fs stop))
+pub done-block : {k : Kind} {fs : Frags ℕ} {d : ℕ} → AllHold (depth-checks d) → BlockDone (suc d) fs → Done d (block k fs stop)
 unfolding frag-fields block-tag holds allowed right-length is-block complete depth-checks
-loose-block indented fs d c g = ((refl, refl, not-true _ (c .0)), (in-block, refl, tt, g), tt)
-loose-block flexible fs d c g = ((refl, refl, not-true _ (c .0)), (in-block, refl, tt, g), tt)
+done-block {k = indented} c g = record { loose = ((refl, refl, not-true _ (c .0)), (in-block, refl, tt, g .loose), tt) }
+done-block {k = flexible} c g = record { loose = ((refl, refl, not-true _ (c .0)), (in-block, refl, tt, g .loose), tt) }
