@@ -2,23 +2,23 @@
 use Rattle.rules.proofs.Basics.{_≡_, refl, subst, List, [], _∷_, ℕ, suc, _≤_, arith, length}
 use Rattle.rules.specs.Limits.{most-bytes}
 use Rattle.rules.specs.Result.{accepted}
-use Rattle.rules.specs.Walk.{in-block as holds-block, in-fragment as holds-fragment, anchor-content}
-use Rattle.rules.specs.Tree.{text, space, if-block, flexible, Frag, stop, leaf, block, Frags, none-left, frag}
-use Rattle.rules.specs.Encode.{encode, encode-fields, frag-fields, frags-fields}
+use Rattle.rules.specs.Walk.{in-fragment as holds-fragment, anchor-content}
+use Rattle.rules.specs.Tree.{text, if-block, Frag, stop, leaf, Frags, none-left, frag}
+use Rattle.rules.specs.Encode.{encode, encode-fields, frag-fields}
 use Rattle.rules.specs.Good.{AllHold}
 use Rattle.rules.specs.Answers.{tree}
 use Rattle.rules.proofs.Chains.{bind-inv}
 use Rattle.rules.proofs.Files.{good-read}
 use Rattle.rules.proofs.Open.{all-open}
-use Rattle.scripts.specs.Joins.{_⧺_, after-spaces, with-commas, last-comma, then-comma, unstyled, comma, join-space, join-comma-sep}
-use Rattle.scripts.specs.Script.{Join, Nodes, no-nodes, node, Header, Entries, no-entries, entry, onto, node-onto, header-tree, entries-onto, tree-of, text-node, Around, root, in-block, in-join, Open, in-fragment, in-anchor, between, begun, start, depth}
+use Rattle.scripts.specs.Joins.{_⧺_, after-spaces, with-commas, unstyled, comma, join-space, join-comma-sep}
+use Rattle.scripts.specs.Script.{Join, Nodes, no-nodes, node, Header, Entries, no-entries, entry, onto, node-onto, header-tree, entries-onto, tree-of, Around, root, in-block, in-join, Open, in-fragment, in-anchor, between, begun, start, depth}
 use Rattle.scripts.specs.Shown.{nodes-bytes, front-of, shown}
 use Rattle.scripts.specs.Steps.{Step, run-checks, style-checks, header-checks, depth-checks, checks, depth-of, steps, finish}
 use Rattle.scripts.specs.Formed.{Formed, AllFormed}
 use Rattle.scripts.proofs.BytesLaws.{tree-more}
-use Rattle.scripts.proofs.Checked.{all-split}
+use Rattle.scripts.proofs.Checked.{all-split, Tested}
 use Rattle.scripts.proofs.Ways.{InJoin, none-yet, in-entry, Goes, g-text, g-run, g-space, g-force, g-conditional, g-open-anchor, g-close-anchor, g-open-block, g-close-block, g-open-fragment, g-close-fragment, g-given, g-written, g-next, g-spaced, g-commas, goes, taken, finish-inv}
-use Rattle.scripts.proofs.Loose.{loose-good, Done, BlockDone, done-stop, done-append, done-leaf, done-none, done-frag, Tested, done-text, AllTested, all-tested, done-anchor, done-space, done-force, done-conditional, done-block}
+use Rattle.scripts.proofs.Loose.{loose-good, Done, BlockDone, done-stop, done-append, done-leaf, done-none, done-frag, done-text, AllTested, all-tested, done-anchor, done-space, done-force, done-conditional, done-block}
 
 -- ---- what holds of all that is done
 

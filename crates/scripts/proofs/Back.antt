@@ -1,25 +1,23 @@
 -- THE STEPS READ OFF AN ACCEPTED FILE GIVE THAT FILE AGAIN, in any buffer that holds it.
-use Rattle.rules.proofs.Basics.{_≡_, refl, sym, ap, _∙_, subst, List, [], _∷_, _++_, append-nil, append-assoc, Option, none, some, Bool, true, false, _&&_, and-eq-true-iff, not, ℕ, suc, _≤_, _<_, arith, leb, ltb, eqb, length, leb-true, le-leb, ne-eqb}
-use Rattle.rules.specs.Limits.{most-bytes, most-blocks, first-style, last-style}
-use Rattle.rules.specs.Bytes.{within}
+use Rattle.rules.proofs.Basics.{_≡_, refl, sym, ap, _∙_, subst, List, [], _∷_, _++_, append-nil, append-assoc, some, Bool, true, false, _&&_, not, ℕ, suc, _≤_, arith, leb, length, le-leb}
+use Rattle.rules.specs.Limits.{most-bytes, most-blocks}
 use Rattle.rules.specs.Result.{accepted, _>>=_, _>>_, need}
-use Rattle.rules.specs.Walk.{Fields, end, bytes, inside, Holder, in-styles, in-text, in-anchor as holds-anchor, in-block as holds-block, in-fragment as holds-fragment, content, text-content, complete, tags, holds, allowed, is-block}
+use Rattle.rules.specs.Walk.{Fields, inside, in-anchor as holds-anchor, in-block as holds-block, in-fragment as holds-fragment, content, holds, is-block}
 use Rattle.rules.specs.Tree.{Run, Leaf, text, anchor, space, force, if-block, Kind, indented, flexible, Frag, stop, leaf, block, Frags, none-left, frag}
-use Rattle.rules.specs.Encode.{encode, frag-fields, frags-fields, leaf-fields, run-fields, runs-fields, block-tag, anchor-tag}
-use Rattle.rules.specs.Good.{Bytes, AllHold, Good}
+use Rattle.rules.specs.Encode.{encode, frag-fields, frags-fields, leaf-fields, runs-fields, block-tag, anchor-tag}
+use Rattle.rules.specs.Good.{Bytes, AllHold}
 use Rattle.rules.specs.Answers.{tree}
 use Rattle.rules.proofs.Chains.{all-sound}
 use Rattle.rules.proofs.Files.{tree-read}
-use Rattle.rules.proofs.Typed.{in-holder, fields-not, inner-good}
 use Rattle.rules.proofs.SoundFields.{Sound, sound-in, sound-behind, sound-after, leaf-rest}
 use Rattle.scripts.specs.Joins.{_⧺_}
 use Rattle.scripts.specs.Script.{Nodes, no-nodes, node, lone, blocked, Entries, no-entries, entry, onto, entries-onto, tree-of, Around, root, Open, in-fragment, in-anchor, between, start, depth}
 use Rattle.scripts.specs.Shown.{nodes-bytes, front-of, shown}
-use Rattle.scripts.specs.Steps.{Step, leaf-put, text-put, anchor-opened, anchor-closed, block-begun, block-closed, fragment-opened, fragment-closed, fragment-closed-in, allows, value-checks, style-checks, run-checks, depth-checks, checks, depth-of, allowed-by, step, steps, finish, finished-in}
+use Rattle.scripts.specs.Steps.{Step, leaf-put, text-put, anchor-opened, anchor-closed, block-begun, block-closed, fragment-opened, fragment-closed, fragment-closed-in, allows, depth-checks, checks, depth-of, allowed-by, step, steps, finish, finished-in}
 use Rattle.scripts.specs.ReadOff.{run-steps, leaf-steps, steps-of, frags-steps}
-use Rattle.scripts.specs.Formed.{Rising, Formed-style, Formed, AllFormed}
+use Rattle.scripts.specs.Formed.{Formed, AllFormed}
 use Rattle.scripts.proofs.BytesLaws.{append-stop}
-use Rattle.scripts.proofs.Checked.{all-both}
+use Rattle.scripts.proofs.Checked.{text-good}
 use Rattle.scripts.proofs.Ways.{goes}
 use Rattle.scripts.proofs.Longer.{longer}
 
@@ -27,7 +25,8 @@ use Rattle.scripts.proofs.Longer.{longer}
 
 pub data Leads : List Step → Open → Open → Type 0 where
   there : {s : Open} → Leads [] s s
-  onwards : {x : Step} {xs : List Step} {s t u : Open} → allows x s ≡ some t → AllHold (checks x (depth-of s)) → Formed x → Leads xs t u → Leads (x ∷ xs) s u
+  onwards : {x : Step} {xs : List Step} {s t u : Open}
+      → allows x s ≡ some t → AllHold (checks x (depth-of s)) → Formed x → Leads xs t u → Leads (x ∷ xs) s u
 
 leads-formed : {xs : List Step} {s t : Open} → Leads xs s t → AllFormed xs
 leads-formed there = tt
@@ -37,44 +36,14 @@ leads-longer : {xs : List Step} {s t : Open} → Leads xs s t → length (shown 
 leads-longer there = omega arith
 leads-longer (onwards {x} {s = s} {t} e c f k) = omega (arith, longer (goes x s t e), leads-longer k)
 
-leads-taken : (room : ℕ) {xs : List Step} {s t : Open} → Leads xs s t → length (shown t) ≤ most-bytes → length (shown t) ≤ room → steps room xs s ≡ accepted t
+leads-taken : (room : ℕ) {xs : List Step} {s t : Open}
+    → Leads xs s t → length (shown t) ≤ most-bytes → length (shown t) ≤ room → steps room xs s ≡ accepted t
 unfolding steps step allowed-by _>>=_ _>>_ need
 leads-taken room there l m = refl
 leads-taken room (onwards {x} {s = s} {t} {u} e c f k) l m =
     let n : length (shown t) ≤ length (shown u) = leads-longer k in
-    rw (e, all-sound (checks x (depth-of s)) (length (shown s)) c, le-leb (length (shown t)) most-bytes (omega arith), le-leb (length (shown t)) room (omega arith))
+    rw (e, all-sound (checks x (depth-of s)) _ c, le-leb (length (shown t)) most-bytes (omega arith), le-leb (length (shown t)) room (omega arith))
     (leads-taken room k l m)
-
--- ---- good fields are sound and formed
-
--- the fields of a style are bytes
-style-tag : (before t : ℕ) → allowed in-styles before t ≡ true → holds t ≡ none
-unfolding allowed holds
-style-tag before t h =
-    let w : within first-style last-style t ≡ true = and-eq-true-iff (within first-style last-style t) (ltb before t) .0 h .0 in
-    let l : first-style ≤ t = leb-true first-style t (and-eq-true-iff (leb first-style t) (leb t last-style) .0 w .0) in
-    let ne : (k : ℕ) → k < first-style → eqb t k ≡ false = λ k lk. ne-eqb t k (λ (z : t ≡ k). omega arith) in
-    simp (ne 1 (omega arith), ne 2 (omega arith), ne 3 (omega arith), ne 4 (omega arith), ne 8 (omega arith), ne 16 (omega arith))
-
-style-good : (i : Fields ℕ) (d b : ℕ) → Good in-styles d b i → AllHold (value-checks i) × Rising b i
-unfolding value-checks
-style-good end d b G = (tt, tt)
-style-good (bytes t v r) d b G =
-    let (c, f) = style-good r d t (G .3) in
-    (all-both (content t v) (value-checks r) (G .2) c, (G .0 .right-tag, G .0 .length-right, G .1, f))
-style-good (inside t i r) d b G = absurd (fields-not t t (G .1 .0) refl (style-tag b t (G .0 .right-tag)) (G .1 .1))
-
-run-good : (s : Option (Fields ℕ)) (v : List ℕ) (d : ℕ) → Good in-text d 0 (run-fields s v) → AllHold (run-checks (record { style = s; chars = v })) × Formed-style s
-unfolding run-fields run-checks style-checks content holds
-run-good none v d G = (G .2, tt)
-run-good (some i) v d G =
-    let (c, f) = style-good i _ 0 (inner-good 16 d i in-styles refl (G .1)) in
-    let whole : AllHold (complete in-styles (tags i)) = in-holder (λ h. AllHold (complete h (tags i))) 16 in-styles refl (G .1 .0) (G .1 .1) (G .1 .2) in
-    (all-both (style-checks (some i)) (text-content v) (all-both (value-checks i) (complete in-styles (tags i)) c whole) (G .2 .2), f)
-
-text-good : {h : Holder} {d b : ℕ} {r : Fields ℕ} (x : Run ℕ) → Sound h d b (inside 1 (run-fields (x .style) (x .chars)) r) → AllHold (run-checks x) × Formed-style (x .style)
-unfolding holds
-text-good x S = run-good (x .style) (x .chars) _ (sound-in in-text refl S .good)
 
 -- ---- the nodes of a tree, written behind others
 
@@ -113,13 +82,13 @@ runs-lead : (rs rs′ : List (Run ℕ)) {xs : List Step} {a : Around} {n : Nodes
 unfolding run-steps runs-fields allows text-put checks
 runs-lead rs [] d b S k = rw append-nil at k
 runs-lead rs (r ∷ rs′) d b S k =
-    let (c, f) = text-good r S in
+    let (f, c) = text-good r S in
     onwards refl c f (runs-lead (rs ++ (r ∷ [])) rs′ d 1 (sound-behind S) (rw (← append-assoc rs (r ∷ []) rs′) at k))
 
 leaf-leads : (l : Leaf ℕ) {xs : List Step} {a : Around} {n : Nodes} {u : Open} (d b : ℕ) (r : Fields ℕ)
     → Sound holds-fragment d b (leaf-fields l r) → Leads xs (in-fragment a (node n (lone l))) u → Leads (leaf-steps l xs) (in-fragment a n) u
 unfolding leaf-steps leaf-fields allows leaf-put text-put anchor-opened anchor-closed checks content holds anchor-tag
-leaf-leads (text x) d b r S k = let (c, f) = text-good x S in onwards refl c f k
+leaf-leads (text x) d b r S k = let (f, c) = text-good x S in onwards refl c f k
 leaf-leads (anchor true v rs) d b r S k =
     let T = sound-in holds-anchor refl S in
     onwards refl (T .good .2) tt (runs-lead [] rs _ 18 (sound-after T) (onwards refl tt tt k))
@@ -167,16 +136,12 @@ read-off s t bs e =
 pub read-off-formed : (s : List ℕ) (t : Frag ℕ) → Bytes s → tree s ≡ accepted t → AllFormed (steps-of t [])
 read-off-formed s t bs e = leads-formed (read-off s t bs e)
 
-pub root-shown : (n : Nodes) → shown (in-fragment root n) ≡ encode (tree-of n)
-unfolding shown front-of nodes-bytes
-root-shown n = refl
-
 pub steps-back : (s : List ℕ) (t : Frag ℕ) (room : ℕ) → Bytes s → tree s ≡ accepted t → length s ≤ room
     → (n : Nodes) × (steps room (steps-of t []) start ≡ accepted (in-fragment root n)) × (finish (in-fragment root n) ≡ accepted n) × (tree-of n ≡ t)
     × (shown (in-fragment root n) ≡ s)
-unfolding finish finished-in
+unfolding finish finished-in shown front-of nodes-bytes
 steps-back s t room bs e h =
     let r = tree-read s t bs e in
     let n : Nodes = grow t no-nodes in
-    let is : shown (in-fragment root n) ≡ s = root-shown n ∙ ap encode (grown-tree t) ∙ r .encodes in
+    let is : shown (in-fragment root n) ≡ s = ap encode (grown-tree t) ∙ r .encodes in
     (n, leads-taken room (read-off s t bs e) (rw (is ∙ sym (r .encodes)) (r .good .short)) (rw is h), refl, grown-tree t, is)

@@ -78,7 +78,8 @@ scripts =
     (open-anchor false (ascii "p") ∷ say "x" ∷ close-anchor ∷ begin-join commas none ∷ next-entry ∷ end-comma-join (plain ")") ∷ [])
     ∷ writes 60 "01000411000178 040000 040000" (begin-join spaced (some (plain "x")) ∷ end-space-join ∷ begin-join spaced none ∷ end-space-join ∷ [])
     -- all other steps
-    ∷ writes 60 "060000 0700017C 040006 080003 050000" (put-force ∷ put-conditional (ascii "|") ∷ open-block flexible ∷ open-fragment ∷ put-space ∷ close-fragment ∷ close-block ∷ [])
+    ∷ writes 60 "060000 0700017C 040006 080003 050000"
+    (put-force ∷ put-conditional (ascii "|") ∷ open-block flexible ∷ open-fragment ∷ put-space ∷ close-fragment ∷ close-block ∷ [])
     ∷ writes 60 "020004 12000170" (open-anchor true (ascii "p") ∷ close-anchor ∷ [])
     -- 32 blocks, and a 33rd
     ∷ record { room = 192; asked = around 32 []; right = accepted (nested 32) }

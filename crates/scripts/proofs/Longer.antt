@@ -14,7 +14,8 @@ unfolding shown
 node-longer a n x = simp (nodes-more, length-append) (omega arith)
 
 -- an entry that is done is at least as long as it was
-entry-longer : (j : Join) (es : Entries) (m : Nodes) → length (joined-bytes j es) + 3 + length (lead j) + length (nodes-bytes m) ≤ length (joined-bytes j (entry es m))
+entry-longer : (j : Join) (es : Entries) (m : Nodes)
+    → length (joined-bytes j es) + 3 + length (lead j) + length (nodes-bytes m) ≤ length (joined-bytes j (entry es m))
 unfolding lead
 entry-longer spaced es m = simp (spaced-more, length-append, length-field) (omega arith)
 entry-longer commas es m = simp (commas-more, length-append, length-field) (omega arith)

@@ -6,12 +6,12 @@ use Rattle.rules.specs.Walk.{Fields, end, bytes, inside, Holder, in-styles, in-
 use Rattle.rules.specs.Tree.{Run, Leaf, text, anchor, space, force, if-block, Kind, indented, flexible, Frag, stop, leaf, block, Frags, none-left, frag}
 use Rattle.rules.specs.Encode.{encode-fields, frag-fields, frags-fields, leaf-fields, run-fields, runs-fields, block-tag, anchor-tag}
 use Rattle.rules.specs.Good.{depth-in, AllHold, Good}
-use Rattle.rules.proofs.Typed.{bytes-not}
+use Rattle.rules.proofs.Typed.{bytes-not, fields-of-run}
 use Rattle.rules.proofs.SoundFields.{row-length}
 use Rattle.scripts.specs.Joins.{_⧺_}
 use Rattle.scripts.specs.Steps.{value-checks, style-checks, run-checks, depth-checks}
-use Rattle.scripts.specs.Formed.{Rising, Formed-style}
-use Rattle.scripts.proofs.Checked.{all-split}
+use Rattle.scripts.specs.Formed.{Rising}
+use Rattle.scripts.proofs.Checked.{all-split, Tested}
 
 -- as `Stands`, but for the length
 abbrev Placed : Holder → (d before t n : ℕ) → Type 0
@@ -87,10 +87,6 @@ done-frag {d} {f} {fs} u v =
 
 -- ---- texts
 
--- a text as a step has tested it
-abbrev pub Tested : Run ℕ → Type 0
-Tested r = Formed-style (r .style) × AllHold (run-checks r)
-
 no-block : (t d : ℕ) → holds t ≡ none → (is-block t && leb most-blocks d) ≡ false
 unfolding is-block holds
 no-block t d h = rw (ne-eqb t 3 (λ q. bytes-not t 3 in-block q refl h), ne-eqb t 4 (λ q. bytes-not t 4 in-block q refl h))
@@ -113,7 +109,7 @@ run-loose (some i) v d (o, c) =
     ((refl, tt), ((refl, refl, refl), (in-styles, refl, w, style-loose i d 0 o g), ((refl, refl, refl), refl, f, tt)))
 
 run-inside : (r : Run ℕ) (d : ℕ) → Tested r
-    → (h : Holder) × (holds 1 ≡ some h) × AllHold (complete h (tags (run-fields (r .style) (r .chars)))) × Loose h (depth-in 1 d) 0 (run-fields (r .style) (r .chars))
+    → (h : Holder) × (holds 1 ≡ some h) × AllHold (complete h (tags (fields-of-run r))) × Loose h (depth-in 1 d) 0 (fields-of-run r)
 unfolding holds is-block
 run-inside r d x = let (c, g) = run-loose (r .style) (r .chars) d x in (in-text, refl, c, g)
 

@@ -60,3 +60,13 @@ all-told room (x ∷ xs) s t e =
 pub finished-told : (room : ℕ) (xs : List Step) (s : Open) (n : Nodes) → steps room xs start ≡ accepted s → finish s ≡ accepted n → told-nodes n ≡ xs
 unfolding told told-around told-nodes
 finished-told room xs s n e h = sym (ap told (finish-inv s n h)) ∙ all-told room xs start s e
+
+-- and which nodes they are does not depend on the room
+pub any-room : (room room′ : ℕ) (xs : List Step) (s t u : Open) → steps room xs s ≡ accepted t → steps room′ xs s ≡ accepted u → t ≡ u
+unfolding steps
+any-room room room′ [] s t u e f = cc
+any-room room room′ (x ∷ xs) s t u e f =
+    let (v, h, e₁) = bind-inv _ _ _ e in
+    let (w, i, f₁) = bind-inv _ _ _ f in
+    let q : v ≡ w = cc (taken room x s v h .is-allowed, taken room′ x s w i .is-allowed) in
+    any-room room room′ xs w t u (rw q at e₁) f₁

@@ -45,8 +45,9 @@ Way x s none = Unit {0}
 Way x s (some t) = Goes x s t
 
 way : (x : Step) (s : Open) → Way x s (allows x s)
-unfolding allows leaf-put text-put anchor-opened anchor-closed block-begun block-closed fragment-opened fragment-closed fragment-closed-in join-begun begun-behind entry-next
-    entry-after join-ended ended-in space-ended comma-ended
+unfolding
+    allows leaf-put text-put anchor-opened anchor-closed block-begun block-closed fragment-opened fragment-closed fragment-closed-in
+    join-begun begun-behind entry-next entry-after join-ended ended-in space-ended comma-ended
 way (put-text r) (in-fragment a n) = g-text
 way (put-text r) (in-anchor a n d v rs) = g-run
 way (put-text r) (between a n k es) = tt
