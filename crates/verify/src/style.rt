@@ -33,7 +33,7 @@ pub fn told(c: Styled, place: usize) -> Verdict
 }
 
 // Four bytes as a number, high byte first.
-fn word(v: &[u8]) -> usize
+pub fn word(v: &[u8]) -> usize
     requires { ⌜ length (now v) ≡ 4 ⌝ }
     ensures { λ r. ⌜ r ≡ number (now (v .entry)) ⌝ }
 {
@@ -41,7 +41,7 @@ fn word(v: &[u8]) -> usize
 }
 
 // +0, or the bits of a float from 1/1024 to 1.
-fn right_opacity(bits: usize) -> bool
+pub fn right_opacity(bits: usize) -> bool
     ensures { λ r. ⌜ r ≡ right-opacity bits ⌝ }
 {
     if bits == 0 {
@@ -54,7 +54,7 @@ fn right_opacity(bits: usize) -> bool
 }
 
 // A signed byte that is at most 117.
-fn right_size(b: usize) -> bool
+pub fn right_size(b: usize) -> bool
     ensures { λ r. ⌜ r ≡ right-size b ⌝ }
 {
     if b <= 117 {

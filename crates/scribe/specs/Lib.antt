@@ -1,0 +1,2 @@
+-- What a writer is.
+pub mod Held
