@@ -12,6 +12,7 @@ use Rattle.moves.specs.declared.Moved.{Moved}
 use Rattle.moves.specs.Opened.{link-at, closed-bytes, closed-top}
 use Rattle.moves.specs.Plans.{piece-bytes, piece-size, header-size, plan-size, opened-header, opened-top, sane, closable}
 use Rattle.moves.specs.Stepped.{said, Says, left, carried-out, so-far, Ready}
+use Rattle.scribe.specs.Near.{Near}
 use Rattle.scribe.proofs.PlanLaws.{Sane, is-sane}
 use Rattle.scribe.proofs.PieceLaws.{piece-length}
 use Rattle.scribe.proofs.OpenedLaws.{Closed, Within, within, bytes-front, bytes-kept, link-front, closable-same}
@@ -60,6 +61,11 @@ header-length false c t = refl
 above : (t : ℕ) → eqb t 0 ≡ false → 0 < t
 above zero e = no-path (cc)
 above (suc t) e = omega arith
+
+top-small : (o : Bool) (a t : ℕ) → a ≤ 60_000 → t < 65_536 → opened-top o a t ≤ 65_535
+unfolding opened-top
+top-small true a t h k = omega arith
+top-small false a t h k = omega arith
 
 sane-on : (room at a top : ℕ) → sane room at top ≡ true → at ≤ a → a ≤ most-bytes → a ≤ room → sane room a top ≡ true
 unfolding sane
@@ -152,6 +158,13 @@ module _ (p : Plan) (st : Style) (v b : List ℕ) (at top : ℕ) (R : Ready p st
 
   pub position₁ : {b₁ : List ℕ} {a : ℕ} → Written b at (piece-bytes (p .before) st v) b₁ a → a ≤ 60_000
   position₁ f = omega (arith, holds₁ f .1, long₁, sizes 0, R .in-file)
+
+  -- the numbers stay small
+  pub near : {b₁ b₂ b₃ b₄ : List ℕ} {a t s u : ℕ} {m : Moved} → Written b at (piece-bytes (p .before) st v) b₁ a → Closed b₁ a top (p .closes) t b₂
+      → Written b₂ a (opened-header (p .opens) (p .code) t) b₃ s × (u ≡ opened-top (p .opens) a t) → Says m b₄ (left b at top (accepted (carried-out p st v (so-far b at top)))) → (m .top ≡ u) → Near m at top
+  unfolding left
+  near {a = a} {t} {u = u} f k g h e =
+      record { at-near = omega (arith, h .at-is, carried-length p st v b at top (S .in-room), R .in-file); top-near = omega (arith, e, top-small (p .opens) a t (position₁ f) (k .1), g .1) }
 
   -- all of it
   pub carried : {b₁ b₂ b₃ b₄ : List ℕ} {a t s u r : ℕ} {m : Moved} → Written b at (piece-bytes (p .before) st v) b₁ a → Closed b₁ a top (p .closes) t b₂

@@ -9,6 +9,7 @@ use Rattle.moves.specs.declared.Moved.{Moved}
 use Rattle.moves.specs.Opened.{code-at}
 use Rattle.moves.specs.Plans.{plan, first-node, plan-size, plan-checks, piece-checks, first-fault, sane, closable}
 use Rattle.moves.specs.Stepped.{Written, said, Says, left, carried-out, so-far, fitting, planned, answered, stepped, Ready}
+use Rattle.scribe.specs.Near.{Near}
 use Rattle.scribe.proofs.PlanLaws.{Sane, is-sane}
 use Rattle.scribe.proofs.PieceLaws.{plan-least, plan-exact}
 use Rattle.scribe.proofs.CheckLaws.{Numbered, plan-numbered}
@@ -17,6 +18,9 @@ use Rattle.scribe.proofs.ActLaws.{carried-length}
 -- the struct of a refused step
 abbrev pub Refused : (m : Moved) (at top n p : ℕ) → Type 0
 Refused m at top n p = (m .at ≡ at) × (m .top ≡ top) × (said (m .answer) ≡ refused n p)
+
+pub still : {m : Moved} {at top n p : ℕ} → Refused m at top n p → Near m at top
+still h = record { at-near = omega (arith, h .0); top-near = omega (arith, h .1) }
 
 refusing : {m : Moved} (b : List ℕ) (at top n p : ℕ) (x : Result Written) → x ≡ refused n p → Refused m at top n p → Says m b (left b at top x)
 unfolding left

@@ -1,2 +1,3 @@
 -- What a writer is.
+pub mod Near
 pub mod Held

@@ -25,6 +25,7 @@ ghost use Rattle.rules.specs.Result.{refused, accepted};
 ghost use Rattle.writing.specs.Written.{Written};
 ghost use Rattle.moves.specs.Opened.{closed-top, closed-bytes};
 ghost use Rattle.moves.specs.Plans.{piece-bytes, opened-header, opened-top, sane, closable, first-node};
+ghost use Rattle.scribe.specs.Near.{Near};
 ghost use Rattle.moves.specs.Stepped.{said, Says, left, carried-out, so-far, fitting, planned, Ready, stepped};
 
 // A refused step: nothing moves.
@@ -145,7 +146,7 @@ fn open_field(buf: &mut [u8], at: usize, top: usize, opens: bool, code: u8) -> S
 // The step itself, where there is room for it.
 fn act(buf: &mut [u8], at: usize, top: usize, p: Plan, st: Style, v: &[u8]) -> Moved
     requires { ⌜ Ready p st (now v) (now buf) at top ⌝ }
-    ensures { λ r. ⌜ Says r (now (buf .exit)) (left (now (buf .entry)) at top (accepted (carried-out p st (now (v .entry)) (so-far (now (buf .entry)) at top)))) ⌝ }
+    ensures { λ r. ⌜ Says r (now (buf .exit)) (left (now (buf .entry)) at top (accepted (carried-out p st (now (v .entry)) (so-far (now (buf .entry)) at top)))) × Near r at top ⌝ }
 {
     let before = p.before;
     let a = put_piece(buf, at, before, st, v);
@@ -160,7 +161,7 @@ fn act(buf: &mut [u8], at: usize, top: usize, p: Plan, st: Style, v: &[u8]) -> M
 fn within(buf: &mut [u8], at: usize, top: usize, p: Plan, st: Style, v: &[u8]) -> Moved
     requires { ⌜ sane (length (now buf)) at top ≡ true ⌝ }
     requires { ⌜ closable (now buf) top (p .closes) ≡ true ⌝ }
-    ensures { λ r. ⌜ Says r (now (buf .exit)) (left (now (buf .entry)) at top (fitting (length (now (buf .entry))) at (carried-out p st (now (v .entry)) (so-far (now (buf .entry)) at top)))) ⌝ }
+    ensures { λ r. ⌜ Says r (now (buf .exit)) (left (now (buf .entry)) at top (fitting (length (now (buf .entry))) at (carried-out p st (now (v .entry)) (so-far (now (buf .entry)) at top)))) × Near r at top ⌝ }
 {
     let n = at + plan_size(p, st, v.len());
     if MOST_BYTES < n {
@@ -175,7 +176,7 @@ fn within(buf: &mut [u8], at: usize, top: usize, p: Plan, st: Style, v: &[u8]) -
 // 11 for what is open, then what is wrong in what the step brings.
 fn taken(buf: &mut [u8], at: usize, top: usize, p: Plan, st: Style, v: &[u8]) -> Moved
     requires { ⌜ sane (length (now buf)) at top ≡ true ⌝ }
-    ensures { λ r. ⌜ Says r (now (buf .exit)) (left (now (buf .entry)) at top (planned p st (now (v .entry)) (now (buf .entry)) at top)) ⌝ }
+    ensures { λ r. ⌜ Says r (now (buf .exit)) (left (now (buf .entry)) at top (planned p st (now (v .entry)) (now (buf .entry)) at top)) × Near r at top ⌝ }
 {
     if !p.allowed {
         return refused(at, top, 11, at);
@@ -205,8 +206,8 @@ fn first_node(code: usize, top: usize) -> usize
 }
 
 // One step. A state that no writer has is answered by 11 as well.
-pub fn step_at(buf: &mut [u8], at: usize, top: usize, op: Op, style: Style, text: &[u8]) -> Moved
-    ensures { λ r. ⌜ Says r (now (buf .exit)) (stepped op style (now (text .entry)) (now (buf .entry)) at top) ⌝ }
+pub fn step_near(buf: &mut [u8], at: usize, top: usize, op: Op, style: Style, text: &[u8]) -> Moved
+    ensures { λ r. ⌜ Says r (now (buf .exit)) (stepped op style (now (text .entry)) (now (buf .entry)) at top) × Near r at top ⌝ }
 {
     if !sane(buf.len(), at, top) {
         return refused(at, top, 11, at);
@@ -214,4 +215,11 @@ pub fn step_at(buf: &mut [u8], at: usize, top: usize, op: Op, style: Style, text
     let code = code_at(buf, top);
     let p = plan_of(op, code, first_node(code, top) < at);
     taken(buf, at, top, p, style, text)
+}
+
+// The same, said in one fact, for who needs no bound of the numbers.
+pub fn step_at(buf: &mut [u8], at: usize, top: usize, op: Op, style: Style, text: &[u8]) -> Moved
+    ensures { λ r. ⌜ Says r (now (buf .exit)) (stepped op style (now (text .entry)) (now (buf .entry)) at top) ⌝ }
+{
+    step_near(buf, at, top, op, style, text)
 }
