@@ -12,6 +12,7 @@ use Rattle.moves.specs.declared.Moved.{Moved}
 use Rattle.moves.specs.Opened.{link-at, closed-bytes, closed-top}
 use Rattle.moves.specs.Plans.{piece-bytes, piece-size, header-size, plan-size, opened-header, opened-top, sane, closable}
 use Rattle.moves.specs.Stepped.{said, Says, left, carried-out, so-far, Ready}
+use Rattle.rules.specs.Answers.{coded}
 use Rattle.scribe.specs.Near.{Near}
 use Rattle.scribe.proofs.PlanLaws.{Sane, is-sane}
 use Rattle.scribe.proofs.PieceLaws.{piece-length}
@@ -162,9 +163,9 @@ module _ (p : Plan) (st : Style) (v b : List ℕ) (at top : ℕ) (R : Ready p st
   -- the numbers stay small
   pub near : {b₁ b₂ b₃ b₄ : List ℕ} {a t s u : ℕ} {m : Moved} → Written b at (piece-bytes (p .before) st v) b₁ a → Closed b₁ a top (p .closes) t b₂
       → Written b₂ a (opened-header (p .opens) (p .code) t) b₃ s × (u ≡ opened-top (p .opens) a t) → Says m b₄ (left b at top (accepted (carried-out p st v (so-far b at top)))) → (m .top ≡ u) → Near m at top
-  unfolding left
+  unfolding left coded
   near {a = a} {t} {u = u} f k g h e =
-      record { at-near = omega (arith, h .at-is, carried-length p st v b at top (S .in-room), R .in-file); top-near = omega (arith, e, top-small (p .opens) a t (position₁ f) (k .1), g .1) }
+      record { at-near = omega (arith, h .at-is, carried-length p st v b at top (S .in-room), R .in-file); top-near = omega (arith, e, top-small (p .opens) a t (position₁ f) (k .1), g .1); answer-near = rw (h .answer-is) (omega (arith, carried-length p st v b at top (S .in-room), R .in-file)) }
 
   -- all of it
   pub carried : {b₁ b₂ b₃ b₄ : List ℕ} {a t s u r : ℕ} {m : Moved} → Written b at (piece-bytes (p .before) st v) b₁ a → Closed b₁ a top (p .closes) t b₂

@@ -8,3 +8,4 @@ pub mod PieceLaws
 pub mod ActLaws
 pub mod StepLaws
 pub mod Again
+pub mod NumberLaws

@@ -1,5 +1,5 @@
 -- What a step says, need by need: 11, what is wrong in what it brings, 1, then 10.
-use Rattle.rules.proofs.Basics.{_≡_, refl, sym, ap, subst, _∙_, List, [], _∷_, ℕ, _+_, _≤_, _<_, min, arith, Bool, true, false, not, not-true, not-false, _&&_, leb, ltb, le-leb, lt-leb, length}
+use Rattle.rules.proofs.Basics.{_≡_, refl, sym, ap, subst, _∙_, List, [], _∷_, ℕ, _+_, _≤_, _<_, min, max, arith, Bool, true, false, not, not-true, not-false, _&&_, leb, ltb, le-leb, lt-leb, length}
 use Rattle.rules.specs.Limits.{most-bytes}
 use Rattle.rules.specs.Result.{Result, refused, accepted, _>>=_, _>>_, need, Check, _or-refuse_, sound}
 use Rattle.moves.specs.declared.Op.{Op}
@@ -9,18 +9,23 @@ use Rattle.moves.specs.declared.Moved.{Moved}
 use Rattle.moves.specs.Opened.{code-at}
 use Rattle.moves.specs.Plans.{plan, first-node, plan-size, plan-checks, piece-checks, first-fault, sane, closable}
 use Rattle.moves.specs.Stepped.{Written, said, Says, left, carried-out, so-far, fitting, planned, answered, stepped, Ready}
+use Rattle.rules.specs.Answers.{coded}
 use Rattle.scribe.specs.Near.{Near}
 use Rattle.scribe.proofs.PlanLaws.{Sane, is-sane}
 use Rattle.scribe.proofs.PieceLaws.{plan-least, plan-exact}
-use Rattle.scribe.proofs.CheckLaws.{Numbered, plan-numbered}
+use Rattle.scribe.proofs.CheckLaws.{Numbered, plan-numbered, small-fault}
 use Rattle.scribe.proofs.ActLaws.{carried-length}
 
 -- the struct of a refused step
 abbrev pub Refused : (m : Moved) (at top n p : ℕ) → Type 0
 Refused m at top n p = (m .at ≡ at) × (m .top ≡ top) × (said (m .answer) ≡ refused n p)
 
-pub still : {m : Moved} {at top n p : ℕ} → Refused m at top n p → Near m at top
-still h = record { at-near = omega (arith, h .0); top-near = omega (arith, h .1) }
+pub still : {m : Moved} {at top n p : ℕ} → Refused m at top n p → n ≤ 255 → p ≤ max at 65_535 → Near m at top
+unfolding coded
+still h k l = record { at-near = omega (arith, h .0); top-near = omega (arith, h .1); answer-near = rw (h .2) (omega (arith, k, l)) }
+
+pub still-faulty : {m : Moved} {at top f : ℕ} (p : Plan) (st : Style) (v : List ℕ) → f ≡ first-fault (plan-checks p st v) → Refused m at top f at → Near m at top
+still-faulty p st v e h = still h (omega (arith, small-fault (plan-checks p st v) (plan-numbered p st v) e)) (omega arith)
 
 refusing : {m : Moved} (b : List ℕ) (at top n p : ℕ) (x : Result Written) → x ≡ refused n p → Refused m at top n p → Says m b (left b at top x)
 unfolding left
@@ -69,13 +74,13 @@ module _ (p : Plan) (st : Style) (v b : List ℕ) (at top : ℕ) where
 sound-fault : (cs : List Check) (p : ℕ) {f : ℕ} → Numbered cs → f ≡ first-fault cs → (f ≡ 0 → ⊥) → sound cs p ≡ refused f p
 unfolding sound need _>>_ first-fault
 sound-fault [] p n e h = absurd (h e)
-sound-fault (true or-refuse k ∷ cs) p n e h = sound-fault cs p (n .1) e h
+sound-fault (true or-refuse k ∷ cs) p n e h = sound-fault cs p (n .2) e h
 sound-fault (false or-refuse k ∷ cs) p n e h = ap (λ (x : ℕ). refused x p) (sym e)
 
 no-fault : (cs : List Check) (p : ℕ) {f : ℕ} → Numbered cs → f ≡ first-fault cs → f ≡ 0 → sound cs p ≡ accepted tt
 unfolding sound need _>>_ first-fault
 no-fault [] p n e h = refl
-no-fault (true or-refuse k ∷ cs) p n e h = no-fault cs p (n .1) e h
+no-fault (true or-refuse k ∷ cs) p n e h = no-fault cs p (n .2) e h
 no-fault (false or-refuse k ∷ cs) p n e h = absurd (omega (arith, n .0, e, h))
 
 -- a chain goes on where a need holds, and where nothing is wrong

@@ -1,3 +1,4 @@
 -- What a writer is.
 pub mod Near
 pub mod Held
+pub mod InC

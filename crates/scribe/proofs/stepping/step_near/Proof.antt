@@ -1,5 +1,5 @@
 -- `scribe::stepping::step_near` meets its contract: the state, then the plan.
-use Rattle.rules.proofs.Basics.{needs}
+use Rattle.rules.proofs.Basics.{arith, needs}
 use Rattle.scribe.proofs.StepLaws.{still, passed, not-sane, reach, sanely}
 use Rattle.scribe.proofs.stepping.step_near.Statement.{statement}
 use Rattle.scribe.proofs.stepping.step_near.Tie as tie
@@ -7,7 +7,7 @@ use Rattle.scribe.proofs.stepping.step_near.Tie as tie
 pub step-near-spec : {M : Type 1} → statement M
 step-near-spec =
     tie.close (tie.spec (λ c κs. search needs) (λ c κs. search needs)
-    (λ c. let i : tie.Then1 = search in let s : tie.After-sane = search in (not-sane _ _ _ _ _ _ (s .sane .ensures) (i .if1 .taken) (c .refused .ensures), still (c .refused .ensures)))
+    (λ c. let i : tie.Then1 = search in let s : tie.After-sane = search in (not-sane _ _ _ _ _ _ (s .sane .ensures) (i .if1 .taken) (c .refused .ensures), still (c .refused .ensures) (omega arith) (omega arith)))
     (λ c κs. let i : tie.Else1 = search in let s : tie.After-sane = search in reach _ _ _ (s .sane .ensures) (i .if1 .left) .0)
     (λ c κs. let i : tie.Else1 = search in let s : tie.After-sane = search in reach _ _ _ (s .sane .ensures) (i .if1 .left) .1) (λ c κs. search needs)
     (λ c κs. let i : tie.Else1 = search in let s : tie.After-sane = search in passed (s .sane .ensures) (i .if1 .left)) (λ c. search needs)
