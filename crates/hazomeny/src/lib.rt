@@ -1,13 +1,20 @@
 // The public entries: each is total and terminates, has no preconditions, and answers as document 01 says. The C names take slices and numbers
-// and answer in one number (`coded` of rules).
+// and answer in one number (`coded` of rules). The writer's entries in Rattle are `scribe::held`; here is its C name.
 use answers::in_one;
 use layout::whole::layout_with_max_line_width;
 use pages::frame::Kind;
 use pages::whole::render_page;
 use rules::Answer;
+use scribe::numbers::LAST_STEP;
+use scribe::numbers::answer_in_one;
+use scribe::numbers::from_state;
+use scribe::numbers::numbered;
+use scribe::numbers::style_in;
+use scribe::stepping::step_near;
 use verify::walk::check;
 ghost use mathlib.Core.Path.{_≡_};
 ghost use Rattle.rules.specs.Result.{said};
+ghost use Rattle.scribe.specs.InC.{write-in-c, Leaves};
 ghost use Rattle.rules.specs.Answers.{check-answer, layout-outcome, plain-outcome, body-outcome, document-outcome, coded, coded-outcome};
 
 // The file check: accepted with 0, or the first fault's number and place.
@@ -79,4 +86,22 @@ pub extern "C" fn hazomeny_html_document(file: &[u8], page: &mut [u8]) -> u64
     ensures { λ r. ⌜ (r, now (page .exit)) ≡ coded-outcome (document-outcome (now (file .entry)) (now (page .entry))) ⌝ }
 {
     in_one(html_document(file, page))
+}
+
+// One step of a writer over `file`, by numbers: `state` has how far the file is written, and the place of the innermost open field and 1, or 0. A
+// number that is no step's is refused by 11. A refusal changes no byte and no number.
+#[no_mangle]
+pub extern "C" fn hazomeny_write(file: &mut [u8], state: &mut [u32; 2], step: u8, style: &[u8; 17], text: &[u8]) -> u64
+    ensures { λ r. ⌜ Leaves r (now (file .exit)) (now (state .exit)) (write-in-c step (now (style .entry)) (now (text .entry)) (now (file .entry)) (now (state .entry))) ⌝ }
+{
+    let at = from_state(state[0]);
+    let top = from_state(state[1]);
+    if LAST_STEP < step {
+        return (at as u64) * 256 + 11;
+    }
+    let m = step_near(file, at, top, numbered(step), style_in(style), text);
+    state[0] = m.at as u32;
+    state[1] = m.top as u32;
+    let a = m.answer;
+    answer_in_one(a)
 }

@@ -8,6 +8,13 @@ ghost use Rattle.rules.specs.Answers.{coded};
 ghost use Rattle.moves.specs.Stepped.{said};
 ghost use Rattle.scribe.specs.InC.{numbered, style-in};
 
+// A number of the writer's state.
+pub fn from_state(n: u32) -> usize
+    ensures { λ r. ⌜ (r ≡ n) × (r < 2 ^ 32) ⌝ }
+{
+    n as usize
+}
+
 // The last step's number.
 pub const LAST_STEP: u8 = 19;
 
@@ -62,7 +69,7 @@ pub fn style_in(s: &[u8; 17]) -> Style
 }
 
 // 256 times the count or the place, and the refusal's number, or 0.
-pub fn in_one(a: Answer) -> u64
+pub fn answer_in_one(a: Answer) -> u64
     requires { ⌜ coded (said a) < 2 ^ 64 ⌝ }
     ensures { λ r. ⌜ r ≡ coded (said a) ⌝ }
 {
