@@ -1,0 +1,152 @@
+-- The code of what is open in each state of a script: its kind, its depth, and whether the open fragment has nodes of its own.
+use Rattle.rules.proofs.Basics.{_≡_, refl, sym, ap, _∙_, List, [], _∷_, _++_, append-assoc, Bool, true, false, ℕ, suc, _+_, _*_, _/_, _%_, _≤_, _<_, arith, leb, ltb, eqb, length, length-append, lt-ltb, le-ltb, ne-eqb}
+use Rattle.rules.specs.Tree.{Run, Leaf, text, anchor, space, force, if-block, Kind, stop}
+use Rattle.rules.specs.Encode.{field, encode, anchor-tag}
+use Rattle.rules.proofs.Turned.{leaf-bytes}
+use Rattle.rules.proofs.SoundFields.{length-field}
+use Rattle.scripts.specs.Script.{Join, spaced, commas, Nodes, no-nodes, node, Node, lone, blocked, spaced-join, comma-join, Entries, no-entries, entry, onto, node-onto, tree-of, Around, root, in-block, in-join, Open, in-fragment, in-anchor, between, begun, depth}
+use Rattle.scripts.specs.Shown.{Opened, a-fragment, a-spaced-entry, a-comma-entry, an-anchor, block-opened, join-opened, entry-opened, opened-number, code, open-header, nodes-bytes, header-bytes, runs-bytes, lead, Front, before-entry, entry-front, block-top, front-of, shown, top-of}
+use Rattle.scripts.proofs.BytesLaws.{nodes-more, lone-bytes, block-bytes, stop-bytes}
+use Rattle.scripts.proofs.Joined.{space-join-bytes, comma-join-none, comma-join-bytes}
+use Rattle.moves.specs.Opened.{root-code, code-at}
+use Rattle.moves.specs.Plans.{depth-in, first-node}
+use Rattle.moves.proofs.Closing.{Tops, tops-here, tops-more, tops-code}
+
+-- ---- codes
+
+pub code-kind : (o : Opened) (d : ℕ) → d < 32 → code o d / 32 ≡ opened-number o
+unfolding code
+code-kind o d h = omega arith
+
+pub code-depth : (o : Opened) (d : ℕ) → d < 32 → code o d % 32 ≡ d
+unfolding code
+code-depth o d h = omega arith
+
+-- a fragment's code is not the root's
+entry-few : (j : Join) → opened-number (entry-opened j) ≤ 2
+unfolding opened-number entry-opened
+entry-few spaced = omega arith
+entry-few commas = omega arith
+
+not-root : (o : Opened) (d : ℕ) → opened-number o ≤ 2 → d < 32 → eqb (code o d) root-code ≡ false
+unfolding code
+not-root o d f h = ne-eqb (code o d) root-code (λ (e : code o d ≡ root-code). omega arith)
+
+-- the blocks that are open, of which the innermost is inside all others
+unfoldable pub blocks : Open → ℕ
+blocks (in-fragment a n) = depth a
+blocks (in-anchor a n d v rs) = depth a
+blocks (between a n k es) = suc (depth a)
+blocks (begun a n j h) = suc (depth a)
+
+-- of a fragment, by what is around it
+unfoldable pub around-code : Around → ℕ
+around-code root = root-code
+around-code (in-block a n k es) = code a-fragment (depth a)
+around-code (in-join a n j h es) = code (entry-opened j) (depth a)
+
+unfoldable pub around-kind : Around → ℕ
+around-kind root = 8
+around-kind (in-block a n k es) = opened-number a-fragment
+around-kind (in-join a n j h es) = opened-number (entry-opened j)
+
+unfoldable pub code-of : Open → ℕ
+code-of (in-fragment a n) = around-code a
+code-of (in-anchor a n d v rs) = code an-anchor 0
+code-of (between a n k es) = code (block-opened k) (depth a)
+code-of (begun a n j h) = code (join-opened j) (depth a)
+
+unfoldable pub kind-of : Open → ℕ
+kind-of (in-fragment a n) = around-kind a
+kind-of (in-anchor a n d v rs) = opened-number an-anchor
+kind-of (between a n k es) = opened-number (block-opened k)
+kind-of (begun a n j h) = opened-number (join-opened j)
+
+pub kind-is : (s : Open) → blocks s ≤ 32 → code-of s / 32 ≡ kind-of s
+unfolding code-of kind-of around-code around-kind blocks depth
+kind-is (in-fragment root n) h = refl
+kind-is (in-fragment (in-block a m k es) n) h = code-kind a-fragment (depth a) h
+kind-is (in-fragment (in-join a m j g es) n) h = code-kind (entry-opened j) (depth a) h
+kind-is (in-anchor a n d v rs) h = code-kind an-anchor 0 (omega arith)
+kind-is (between a n k es) h = code-kind (block-opened k) (depth a) h
+kind-is (begun a n j g) h = code-kind (join-opened j) (depth a) h
+
+-- a block that stands in the open fragment is inside so many
+entry-depth : (o : Opened) (d : ℕ) → opened-number o ≤ 2 → d < 32 → depth-in (code o d) ≡ suc d
+unfolding depth-in
+entry-depth o d f h = rw (not-root o d f h, code-depth o d h) (omega arith)
+
+pub depth-is : (a : Around) → depth a ≤ 32 → depth-in (around-code a) ≡ depth a
+unfolding depth-in around-code depth opened-number
+depth-is root h = refl
+depth-is (in-block a n k es) h = entry-depth a-fragment (depth a) (omega arith) h
+depth-is (in-join a n j g es) h = entry-depth (entry-opened j) (depth a) (entry-few j) h
+
+-- ---- the header that is open
+
+pub block-tops : (f : Front) (n : Nodes) (c : ℕ) (h d : List ℕ) → Tops (before-entry f n c h d) (block-top f n h) (f .before ++ (nodes-bytes n ++ h)) c (f .top) d
+unfolding before-entry block-top
+block-tops f n c h d = tops-here _ c _ d
+
+pub entry-tops : (b : List ℕ) (c p : ℕ) (l m : List ℕ) → Tops (entry-front b c p l .before ++ m) (entry-front b c p l .top) b c p (l ++ m)
+unfolding entry-front
+entry-tops b c p l m = record { bytes-are = append-assoc b _ m; top-is = refl }
+
+pub anchor-tops : (a : Around) (n : Nodes) (d : Bool) (v : List ℕ) (rs : List (Run ℕ))
+    → Tops (shown (in-anchor a n d v rs)) (top-of (in-anchor a n d v rs))
+    (front-of a .before ++ nodes-bytes n) (code an-anchor 0) (front-of a .top) (field (anchor-tag d) v ++ runs-bytes rs)
+unfolding shown top-of
+anchor-tops a n d v rs = tops-here _ _ _ _
+
+pub code-is : (s : Open) (r : List ℕ) → code-at (shown s ++ r) (top-of s) ≡ code-of s
+unfolding shown top-of front-of code-of around-code code-at
+code-is (in-fragment root n) r = refl
+code-is (in-fragment (in-block a m k es) n) r = tops-code (tops-more r (entry-tops _ _ _ _ _))
+code-is (in-fragment (in-join a m j g es) n) r = tops-code (tops-more r (entry-tops _ _ _ _ _))
+code-is (in-anchor a n d v rs) r = tops-code (tops-more r (anchor-tops a n d v rs))
+code-is (between a n k es) r = tops-code (tops-more r (block-tops _ _ _ _ _))
+code-is (begun a n j h) r = tops-code (tops-more r (block-tops _ _ _ _ _))
+
+-- ---- nodes of its own
+
+leaf-long : (l : Leaf ℕ) → 1 ≤ length (leaf-bytes l)
+unfolding leaf-bytes
+leaf-long (text r) = simp length-field (omega arith)
+leaf-long (anchor d v rs) = simp length-field (omega arith)
+leaf-long space = simp length-field (omega arith)
+leaf-long force = simp length-field (omega arith)
+leaf-long (if-block v) = simp length-field (omega arith)
+
+-- a node has bytes
+node-long : (x : Node) → 1 ≤ length (encode (node-onto x stop))
+node-long (lone l) = rw (lone-bytes l) (leaf-long l)
+node-long (blocked k es) = simp (block-bytes, length-field) (omega arith)
+node-long (spaced-join h es) = simp (space-join-bytes, length-append, length-field) (omega arith)
+node-long (comma-join h no-entries r) = simp (comma-join-none, length-append, length-field) (omega arith)
+node-long (comma-join h (entry es m) r) = simp (comma-join-bytes, length-append, length-field) (omega arith)
+
+unfoldable pub has-nodes : Nodes → Bool
+has-nodes no-nodes = false
+has-nodes (node n x) = true
+
+no-nodes-bytes : length (nodes-bytes no-nodes) ≡ 0
+unfolding nodes-bytes tree-of onto
+no-nodes-bytes = rw stop-bytes
+
+behind : (n : Nodes) (p q : ℕ) → q ≡ p + length (nodes-bytes n) → ltb p q ≡ has-nodes n
+unfolding has-nodes
+behind no-nodes p q e = le-ltb p q (omega (arith, no-nodes-bytes))
+behind (node n x) p q e =
+    lt-ltb p q (omega (arith, node-long x, simp length-append at (ap length (nodes-more n x))))
+
+-- nodes stand behind what is in front of the open fragment
+first-is : (a : Around) → depth a ≤ 32 → first-node (around-code a) (front-of a .top) ≡ length (front-of a .before)
+unfolding first-node around-code front-of depth entry-front opened-number entry-opened lead
+first-is root h = refl
+first-is (in-block a n k es) h = rw (not-root a-fragment (depth a) (omega arith) h, code-kind a-fragment (depth a) h) (simp length-append (omega arith))
+first-is (in-join a n spaced g es) h = rw (not-root a-spaced-entry (depth a) (omega arith) h, code-kind a-spaced-entry (depth a) h) (simp (length-append, length-field) (omega arith))
+first-is (in-join a n commas g es) h = rw (not-root a-comma-entry (depth a) (omega arith) h, code-kind a-comma-entry (depth a) h) (simp length-append (omega arith))
+
+pub own-is : (a : Around) (n : Nodes) → depth a ≤ 32 → ltb (first-node (around-code a) (front-of a .top)) (length (shown (in-fragment a n))) ≡ has-nodes n
+unfolding shown
+own-is a n h = rw (first-is a h) (behind n _ _ (length-append (front-of a .before) (nodes-bytes n)))

@@ -1,0 +1,3 @@
+-- Theorems about a writer's step on the lent bytes.
+pub mod Closing
+pub mod Codes
