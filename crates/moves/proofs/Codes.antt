@@ -4,8 +4,8 @@ use Rattle.rules.specs.Tree.{Run, Leaf, text, anchor, space, force, if-block, K
 use Rattle.rules.specs.Encode.{field, encode, anchor-tag}
 use Rattle.rules.proofs.Turned.{leaf-bytes}
 use Rattle.rules.proofs.SoundFields.{length-field}
-use Rattle.scripts.specs.Script.{Join, spaced, commas, Nodes, no-nodes, node, Node, lone, blocked, spaced-join, comma-join, Entries, no-entries, entry, onto, node-onto, tree-of, Around, root, in-block, in-join, Open, in-fragment, in-anchor, between, begun, depth}
-use Rattle.scripts.specs.Shown.{Opened, a-fragment, a-spaced-entry, a-comma-entry, an-anchor, block-opened, join-opened, entry-opened, opened-number, code, open-header, nodes-bytes, header-bytes, runs-bytes, lead, Front, before-entry, entry-front, block-top, front-of, shown, top-of}
+use Rattle.scripts.specs.Script.{Join, spaced, commas, Nodes, no-nodes, node, Node, lone, blocked, spaced-join, comma-join, Header, Entries, no-entries, entry, onto, node-onto, tree-of, Around, root, in-block, in-join, Open, in-fragment, in-anchor, between, begun, depth}
+use Rattle.scripts.specs.Shown.{Opened, a-fragment, a-spaced-entry, a-comma-entry, an-anchor, block-opened, join-opened, entry-opened, opened-number, code, open-header, nodes-bytes, header-bytes, runs-bytes, entries-bytes, joined-bytes, lead, Front, before-entry, entry-front, block-top, front-of, shown, top-of}
 use Rattle.scripts.proofs.BytesLaws.{nodes-more, lone-bytes, block-bytes, stop-bytes}
 use Rattle.scripts.proofs.Joined.{space-join-bytes, comma-join-none, comma-join-bytes}
 use Rattle.moves.specs.Opened.{root-code, code-at}
@@ -84,28 +84,55 @@ depth-is (in-join a n j g es) h = entry-depth (entry-opened j) (depth a) (entry-
 
 -- ---- the header that is open
 
+-- a block that is open behind nodes and a join's header, with what stands in it
 pub block-tops : (f : Front) (n : Nodes) (c : ℕ) (h d : List ℕ) → Tops (before-entry f n c h d) (block-top f n h) (f .before ++ (nodes-bytes n ++ h)) c (f .top) d
 unfolding before-entry block-top
 block-tops f n c h d = tops-here _ c _ d
 
-pub entry-tops : (b : List ℕ) (c p : ℕ) (l m : List ℕ) → Tops (entry-front b c p l .before ++ m) (entry-front b c p l .top) b c p (l ++ m)
+entry-tops : (b : List ℕ) (c p : ℕ) (l m : List ℕ) → Tops (entry-front b c p l .before ++ m) (entry-front b c p l .top) b c p (l ++ m)
 unfolding entry-front
 entry-tops b c p l m = record { bytes-are = append-assoc b _ m; top-is = refl }
 
-pub anchor-tops : (a : Around) (n : Nodes) (d : Bool) (v : List ℕ) (rs : List (Run ℕ))
-    → Tops (shown (in-anchor a n d v rs)) (top-of (in-anchor a n d v rs))
-    (front-of a .before ++ nodes-bytes n) (code an-anchor 0) (front-of a .top) (field (anchor-tag d) v ++ runs-bytes rs)
-unfolding shown top-of
-anchor-tops a n d v rs = tops-here _ _ _ _
+module _ (a : Around) (n : Nodes) where
+  pub anchor-tops : (d : Bool) (v : List ℕ) (rs : List (Run ℕ))
+      → Tops (shown (in-anchor a n d v rs)) (top-of (in-anchor a n d v rs))
+      (front-of a .before ++ nodes-bytes n) (code an-anchor 0) (front-of a .top) (field (anchor-tag d) v ++ runs-bytes rs)
+  unfolding shown top-of
+  anchor-tops d v rs = tops-here _ _ _ _
+
+  pub between-tops : (k : Kind) (es : Entries)
+      → Tops (shown (between a n k es)) (top-of (between a n k es))
+      (front-of a .before ++ (nodes-bytes n ++ [])) (code (block-opened k) (depth a)) (front-of a .top) (entries-bytes es)
+  unfolding shown top-of
+  between-tops k es = block-tops _ _ _ _ _
+
+  pub begun-tops : (j : Join) (h : Header)
+      → Tops (shown (begun a n j h)) (top-of (begun a n j h))
+      (front-of a .before ++ (nodes-bytes n ++ header-bytes h)) (code (join-opened j) (depth a)) (front-of a .top) []
+  unfolding shown top-of
+  begun-tops j h = block-tops _ _ _ _ _
+
+  pub fragment-tops : (k : Kind) (es : Entries) (m : Nodes)
+      → Tops (shown (in-fragment (in-block a n k es) m)) (top-of (in-fragment (in-block a n k es) m))
+      (shown (between a n k es)) (code a-fragment (depth a)) (top-of (between a n k es)) (nodes-bytes m)
+  unfolding shown top-of front-of
+  fragment-tops k es m = entry-tops _ _ _ _ _
+
+  pub in-join-tops : (j : Join) (h : Header) (es : Entries) (m : Nodes)
+      → Tops (shown (in-fragment (in-join a n j h es) m)) (top-of (in-fragment (in-join a n j h es) m))
+      (before-entry (front-of a) n (code (join-opened j) (depth a)) (header-bytes h) (joined-bytes j es)) (code (entry-opened j) (depth a))
+      (block-top (front-of a) n (header-bytes h)) (lead j ++ nodes-bytes m)
+  unfolding shown top-of front-of
+  in-join-tops j h es m = entry-tops _ _ _ _ _
 
 pub code-is : (s : Open) (r : List ℕ) → code-at (shown s ++ r) (top-of s) ≡ code-of s
-unfolding shown top-of front-of code-of around-code code-at
+unfolding top-of front-of code-of around-code code-at
 code-is (in-fragment root n) r = refl
-code-is (in-fragment (in-block a m k es) n) r = tops-code (tops-more r (entry-tops _ _ _ _ _))
-code-is (in-fragment (in-join a m j g es) n) r = tops-code (tops-more r (entry-tops _ _ _ _ _))
+code-is (in-fragment (in-block a m k es) n) r = tops-code (tops-more r (fragment-tops a m k es n))
+code-is (in-fragment (in-join a m j h es) n) r = tops-code (tops-more r (in-join-tops a m j h es n))
 code-is (in-anchor a n d v rs) r = tops-code (tops-more r (anchor-tops a n d v rs))
-code-is (between a n k es) r = tops-code (tops-more r (block-tops _ _ _ _ _))
-code-is (begun a n j h) r = tops-code (tops-more r (block-tops _ _ _ _ _))
+code-is (between a n k es) r = tops-code (tops-more r (between-tops a n k es))
+code-is (begun a n j h) r = tops-code (tops-more r (begun-tops a n j h))
 
 -- ---- nodes of its own
 
@@ -129,13 +156,13 @@ unfoldable pub has-nodes : Nodes → Bool
 has-nodes no-nodes = false
 has-nodes (node n x) = true
 
-no-nodes-bytes : length (nodes-bytes no-nodes) ≡ 0
+pub no-bytes : nodes-bytes no-nodes ≡ []
 unfolding nodes-bytes tree-of onto
-no-nodes-bytes = rw stop-bytes
+no-bytes = stop-bytes
 
 behind : (n : Nodes) (p q : ℕ) → q ≡ p + length (nodes-bytes n) → ltb p q ≡ has-nodes n
 unfolding has-nodes
-behind no-nodes p q e = le-ltb p q (omega (arith, no-nodes-bytes))
+behind no-nodes p q e = le-ltb p q (omega (arith, ap length no-bytes))
 behind (node n x) p q e =
     lt-ltb p q (omega (arith, node-long x, simp length-append at (ap length (nodes-more n x))))
 

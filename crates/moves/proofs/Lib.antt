@@ -1,3 +1,5 @@
 -- Theorems about a writer's step on the lent bytes.
 pub mod Closing
 pub mod Codes
+pub mod Carried
+pub mod Ways
