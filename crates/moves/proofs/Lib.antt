@@ -3,3 +3,4 @@ pub mod Closing
 pub mod Codes
 pub mod Carried
 pub mod Ways
+pub mod Allowed
