@@ -11,7 +11,7 @@ use Rattle.moves.specs.declared.Op.{Op}
 use Rattle.moves.specs.declared.Op.the-variants as op
 use Rattle.moves.specs.Plans.{fragment-here, plan, puts, shuts, opens, begins, next-plan, end-space-plan, end-comma-plan}
 use Rattle.moves.specs.Asked.{asked}
-use Rattle.moves.proofs.Codes.{around-kind, kind-of, has-nodes}
+use Rattle.moves.proofs.Codes.{around-kind, kind-of, has-nodes, Owns}
 
 unfoldable pub is-some : {A : Type 0} → Option A → Bool
 is-some none = false
@@ -31,13 +31,6 @@ ops =
     op.Text ∷ op.Space ∷ op.Force ∷ op.Conditional ∷ op.OpenDefinition ∷ op.OpenUse ∷ op.CloseAnchor ∷ op.OpenIndented ∷ op.OpenFlexible ∷ op.CloseBlock
     ∷ op.OpenFragment ∷ op.CloseFragment ∷ op.BeginSpaceJoin ∷ op.BeginSpaceJoinBehind ∷ op.BeginCommaJoin ∷ op.BeginCommaJoinBehind ∷ op.NextEntry
     ∷ op.EndSpaceJoin ∷ op.EndCommaJoin ∷ op.Finish ∷ []
-
--- whether the open fragment has nodes matters where a fragment is open
-abbrev pub Owns : Bool → Open → Type 0
-Owns own (in-fragment a n) = own ≡ has-nodes n
-Owns own (in-anchor a n d v rs) = Unit {0}
-Owns own (between a n k es) = Unit {0}
-Owns own (begun a n j h) = Unit {0}
 
 all-allowed : (st : Style) (v : List ℕ) (c : ℕ) (own : Bool) (s : Open) → c / 32 ≡ kind-of s → Owns own s
     → map (λ o. plan o c own .allowed) ops ≡ map (λ o. can (asked o st v) s) ops

@@ -1,5 +1,5 @@
 -- The innermost open field: its code and its link are read off its header, and closing it makes it the field of what stands behind.
-use Rattle.rules.proofs.Basics.{_≡_, refl, sym, ap, ap₂, _∙_, List, [], _∷_, _++_, append-assoc, ℕ, suc, _+_, _-_, _*_, _/_, _%_, arith, length, length-append, take, drop, getD, div-add-mod', sets-eq, add-one, sub-one}
+use Rattle.rules.proofs.Basics.{_≡_, refl, sym, ap, ap₂, _∙_, List, [], _∷_, _++_, append-assoc, true, _||_, or-true, ℕ, suc, _+_, _-_, _*_, _/_, _%_, arith, leb, eqb, le-leb, length, length-append, take, drop, getD, div-add-mod', sets-eq, add-one, sub-one}
 use lib.Seq.{getD-append-seam, getD-append-add, take-append-seam, drop-append-add}
 use Rattle.rules.specs.Encode.{field}
 use Rattle.scripts.specs.Shown.{open-header}
@@ -27,6 +27,13 @@ module _ {w : List ℕ} {top : ℕ} {u : List ℕ} {c p : ℕ} {v : List ℕ} wh
       let one : suc (length u) ≡ length u + 1 = omega arith in
       let two : length u + 1 + 1 ≡ length u + 2 = omega arith in
       rw (k .bytes-are, k .top-is, one, two, getD-append-add u _ 1 0, getD-append-add u _ 2 0) (omega arith)
+
+  -- it stands in front of the position
+  pub tops-stands : Tops w top u c p v → (eqb top 0 || leb (top + 2) (length w)) ≡ true
+  tops-stands k =
+      let e : top ≡ suc (length u) = k .top-is in
+      let l : length w ≡ length u + length (open-header c p ++ v) = ap length (k .bytes-are) ∙ length-append u _ in
+      rw (le-leb (top + 2) (length w) (omega arith)) (or-true (eqb top 0))
 
   -- closed
   pub tops-closed : Tops w top u c p v → closed-in w (length w) top ≡ u ++ field (true-tag (c / 32)) v

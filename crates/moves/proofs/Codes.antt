@@ -1,5 +1,5 @@
 -- The code of what is open in each state of a script: its kind, its depth, and whether the open fragment has nodes of its own.
-use Rattle.rules.proofs.Basics.{_≡_, refl, sym, ap, _∙_, List, [], _∷_, _++_, append-assoc, Bool, true, false, ℕ, suc, _+_, _*_, _/_, _%_, _≤_, _<_, arith, leb, ltb, eqb, length, length-append, lt-ltb, le-ltb, ne-eqb}
+use Rattle.rules.proofs.Basics.{_≡_, refl, sym, ap, _∙_, List, [], _∷_, _++_, append-assoc, Bool, true, false, _||_, ℕ, suc, _+_, _*_, _/_, _%_, _≤_, _<_, arith, leb, ltb, eqb, length, length-append, _⊎_, inl, inr, lt-ltb, le-ltb, ne-eqb}
 use Rattle.rules.specs.Tree.{Run, Leaf, text, anchor, space, force, if-block, Kind, stop}
 use Rattle.rules.specs.Encode.{field, encode, anchor-tag}
 use Rattle.rules.proofs.Turned.{leaf-bytes}
@@ -10,7 +10,7 @@ use Rattle.scripts.proofs.BytesLaws.{nodes-more, lone-bytes, block-bytes, stop-
 use Rattle.scripts.proofs.Joined.{space-join-bytes, comma-join-none, comma-join-bytes}
 use Rattle.moves.specs.Opened.{root-code, code-at}
 use Rattle.moves.specs.Plans.{depth-in, first-node}
-use Rattle.moves.proofs.Closing.{Tops, tops-here, tops-more, tops-code}
+use Rattle.moves.proofs.Closing.{Tops, tops-here, tops-more, tops-code, tops-stands}
 
 -- ---- codes
 
@@ -125,14 +125,37 @@ module _ (a : Around) (n : Nodes) where
   unfolding shown top-of front-of
   in-join-tops j h es m = entry-tops _ _ _ _ _
 
+-- nothing is open, or a header is, with the state's code
+pub record Headed (s : Open) : Type 0 where
+  pub front : List ℕ
+  pub link : ℕ
+  pub behind : List ℕ
+  pub tops : Tops (shown s) (top-of s) front (code-of s) link behind
+
+pub headed : (s : Open) → ((top-of s ≡ 0) × (code-of s ≡ root-code)) ⊎ Headed s
+unfolding top-of front-of code-of around-code
+headed (in-fragment root n) = inl (refl, refl)
+headed (in-fragment (in-block a m k es) n) = inr (record { front = _; link = _; behind = _; tops = fragment-tops a m k es n })
+headed (in-fragment (in-join a m j h es) n) = inr (record { front = _; link = _; behind = _; tops = in-join-tops a m j h es n })
+headed (in-anchor a n d v rs) = inr (record { front = _; link = _; behind = _; tops = anchor-tops a n d v rs })
+headed (between a n k es) = inr (record { front = _; link = _; behind = _; tops = between-tops a n k es })
+headed (begun a n j h) = inr (record { front = _; link = _; behind = _; tops = begun-tops a n j h })
+
 pub code-is : (s : Open) (r : List ℕ) → code-at (shown s ++ r) (top-of s) ≡ code-of s
-unfolding top-of front-of code-of around-code code-at
-code-is (in-fragment root n) r = refl
-code-is (in-fragment (in-block a m k es) n) r = tops-code (tops-more r (fragment-tops a m k es n))
-code-is (in-fragment (in-join a m j h es) n) r = tops-code (tops-more r (in-join-tops a m j h es n))
-code-is (in-anchor a n d v rs) r = tops-code (tops-more r (anchor-tops a n d v rs))
-code-is (between a n k es) r = tops-code (tops-more r (between-tops a n k es))
-code-is (begun a n j h) r = tops-code (tops-more r (begun-tops a n j h))
+unfolding code-at
+code-is s r = go (headed s)
+  where
+    go : ((top-of s ≡ 0) × (code-of s ≡ root-code)) ⊎ Headed s → code-at (shown s ++ r) (top-of s) ≡ code-of s
+    go (inl (e, f)) = rw (e, f) refl
+    go (inr h) = tops-code (tops-more r (h .tops))
+
+-- an open header stands in front of the position
+pub stands : (s : Open) → (eqb (top-of s) 0 || leb (top-of s + 2) (length (shown s))) ≡ true
+stands s = go (headed s)
+  where
+    go : ((top-of s ≡ 0) × (code-of s ≡ root-code)) ⊎ Headed s → (eqb (top-of s) 0 || leb (top-of s + 2) (length (shown s))) ≡ true
+    go (inl (e, f)) = rw e
+    go (inr h) = tops-stands (h .tops)
 
 -- ---- nodes of its own
 
@@ -156,6 +179,13 @@ unfoldable pub has-nodes : Nodes → Bool
 has-nodes no-nodes = false
 has-nodes (node n x) = true
 
+-- whether the open fragment has nodes, where one is open
+abbrev pub Owns : Bool → Open → Type 0
+Owns own (in-fragment a n) = own ≡ has-nodes n
+Owns own (in-anchor a n d v rs) = Unit {0}
+Owns own (between a n k es) = Unit {0}
+Owns own (begun a n j h) = Unit {0}
+
 pub no-bytes : nodes-bytes no-nodes ≡ []
 unfolding nodes-bytes tree-of onto
 no-bytes = stop-bytes
@@ -174,6 +204,13 @@ first-is (in-block a n k es) h = rw (not-root a-fragment (depth a) (omega arith)
 first-is (in-join a n spaced g es) h = rw (not-root a-spaced-entry (depth a) (omega arith) h, code-kind a-spaced-entry (depth a) h) (simp (length-append, length-field) (omega arith))
 first-is (in-join a n commas g es) h = rw (not-root a-comma-entry (depth a) (omega arith) h, code-kind a-comma-entry (depth a) h) (simp length-append (omega arith))
 
-pub own-is : (a : Around) (n : Nodes) → depth a ≤ 32 → ltb (first-node (around-code a) (front-of a .top)) (length (shown (in-fragment a n))) ≡ has-nodes n
+own-is : (a : Around) (n : Nodes) → depth a ≤ 32 → ltb (first-node (around-code a) (front-of a .top)) (length (shown (in-fragment a n))) ≡ has-nodes n
 unfolding shown
 own-is a n h = rw (first-is a h) (behind n _ _ (length-append (front-of a .before) (nodes-bytes n)))
+
+pub owns : (s : Open) → blocks s ≤ 32 → Owns (ltb (first-node (code-of s) (top-of s)) (length (shown s))) s
+unfolding code-of top-of blocks
+owns (in-fragment a n) h = own-is a n h
+owns (in-anchor a n d v rs) h = tt
+owns (between a n k es) h = tt
+owns (begun a n j g) h = tt

@@ -4,3 +4,5 @@ pub mod Codes
 pub mod Carried
 pub mod Ways
 pub mod Allowed
+pub mod Shows
+pub mod Simulation

@@ -1,5 +1,5 @@
 -- Each way of a step, carried out.
-use Rattle.rules.proofs.Basics.{_≡_, refl, sym, ap, _∙_, List, [], _∷_, _++_, append-assoc, append-nil, zero-add, Option, none, some, Bool, true, false, ℕ, suc, _+_, _/_, _%_, _≤_, _<_, arith, length, length-append}
+use Rattle.rules.proofs.Basics.{_≡_, refl, ap, subst, subst⁻¹, List, [], _∷_, _++_, append-assoc, append-nil, zero-add, Option, none, some, Bool, true, false, ℕ, suc, _+_, _/_, _%_, _≤_, _<_, arith, length, length-append}
 use Rattle.rules.specs.Result.{sound}
 use Rattle.rules.specs.Walk.{text-content, anchor-content}
 use Rattle.rules.specs.Tree.{Kind, indented, flexible}
@@ -55,67 +55,72 @@ entry-tag-is commas d h = tag-is a-comma-entry d h
 
 ruleset flat = (append-assoc, append-nil, zero-add)
 
-carried : (o : Op) (st : Style) (v : List ℕ) (own : Bool) (s t : Open) → GoesBy (asked o st v) s t → blocks s ≤ 32
+by-op : (o : Op) (st : Style) (v : List ℕ) (own : Bool) (s t : Open) → GoesBy (asked o st v) s t → blocks s ≤ 32
     → CarriesBy (asked o st v) (plan o (code-of s) own) st v s t
 unfolding
     asked plan puts shuts opens begins next-plan end-space-plan end-comma-plan piece-bytes opened-header opened-top checks depth-checks header-checks plan-checks piece-checks
     shown top-of front-of before-entry entry-front block-top entries-bytes joined-bytes runs-bytes lead leaf-bytes anchor-tag code-of around-code blocks depth depth-of code opened-number block-opened join-opened
     entry-opened true-tag
-carried op.Text st v own s t g-text h = carries-none (passes (run-checks (run st v)) 6) refl (record { bytes-end = simp (flat, nodes-more, text-bytes); top-ends = refl })
-carried op.Text st v own s t g-run h = carries-none (passes (run-checks (run st v)) 6) refl (record { bytes-end = simp (flat, runs-more); top-ends = refl })
-carried op.Space st v own s t g-space h = carries-none (passes [] 6) refl (record { bytes-end = simp (flat, nodes-more, lone-bytes); top-ends = refl })
-carried op.Force st v own s t g-force h = carries-none (passes [] 6) refl (record { bytes-end = simp (flat, nodes-more, lone-bytes); top-ends = refl })
-carried op.Conditional st v own s t g-conditional h =
+by-op op.Text st v own s t g-text h = carries-none (passes (run-checks (run st v)) 6) refl (record { bytes-end = simp (flat, nodes-more, text-bytes); top-ends = refl })
+by-op op.Text st v own s t g-run h = carries-none (passes (run-checks (run st v)) 6) refl (record { bytes-end = simp (flat, runs-more); top-ends = refl })
+by-op op.Space st v own s t g-space h = carries-none (passes [] 6) refl (record { bytes-end = simp (flat, nodes-more, lone-bytes); top-ends = refl })
+by-op op.Force st v own s t g-force h = carries-none (passes [] 6) refl (record { bytes-end = simp (flat, nodes-more, lone-bytes); top-ends = refl })
+by-op op.Conditional st v own s t g-conditional h =
     carries-none (passes (text-content v) 6) refl (record { bytes-end = simp (flat, nodes-more, lone-bytes); top-ends = refl })
-carried op.OpenDefinition st v own s t g-open-anchor h = carries-none (passes (anchor-content v) 6) refl (record { bytes-end = simp flat; top-ends = simp flat })
-carried op.OpenUse st v own s t g-open-anchor h = carries-none (passes (anchor-content v) 6) refl (record { bytes-end = simp flat; top-ends = simp flat })
-carried op.CloseAnchor st v own s t (g-close-anchor {a} {n} {d} {v = w} {rs}) h =
+by-op op.OpenDefinition st v own s t g-open-anchor h = carries-none (passes (anchor-content v) 6) refl (record { bytes-end = simp flat; top-ends = simp flat })
+by-op op.OpenUse st v own s t g-open-anchor h = carries-none (passes (anchor-content v) 6) refl (record { bytes-end = simp flat; top-ends = simp flat })
+by-op op.CloseAnchor st v own s t (g-close-anchor {a} {n} {d} {v = w} {rs}) h =
     carries-one (passes [] 6) (anchor-tops a n d w rs) refl refl (record { bytes-end = simp (flat, nodes-more, anchor-bytes); top-ends = refl })
-carried op.OpenIndented st v own s t (g-open-block {a = a}) h =
+by-op op.OpenIndented st v own s t (g-open-block {a = a}) h =
     rw (depth-is a h) (carries-none (λ place. refl) refl (record { bytes-end = simp flat; top-ends = simp flat }))
-carried op.OpenFlexible st v own s t (g-open-block {a = a}) h =
+by-op op.OpenFlexible st v own s t (g-open-block {a = a}) h =
     rw (depth-is a h) (carries-none (λ place. refl) refl (record { bytes-end = simp flat; top-ends = simp flat }))
-carried op.CloseBlock st v own s t (g-close-block {a} {n} {k} {es}) h =
+by-op op.CloseBlock st v own s t (g-close-block {a} {n} {k} {es}) h =
     carries-one (passes [] 6) (between-tops a n k es) (block-tag-is k (depth a) h) refl (record { bytes-end = simp (flat, nodes-more, block-bytes); top-ends = refl })
-carried op.OpenFragment st v own s t (g-open-fragment {a} {k = k}) h =
+by-op op.OpenFragment st v own s t (g-open-fragment {a} {k = k}) h =
     rw (code-depth (block-opened k) (depth a) h) (carries-none (passes [] 6) refl (record { bytes-end = simp (flat, no-bytes); top-ends = simp flat }))
-carried op.CloseFragment st v own s t (g-close-fragment {a} {n} {m} {k} {es}) h =
+by-op op.CloseFragment st v own s t (g-close-fragment {a} {n} {m} {k} {es}) h =
     carries-one (passes [] 6) (fragment-tops a n k es m) (tag-is a-fragment (depth a) h) refl (record { bytes-end = simp flat; top-ends = refl })
-carried op.BeginSpaceJoin st v own s t (g-given {a = a}) h =
+by-op op.BeginSpaceJoin st v own s t (g-given {a = a}) h =
     rw (depth-is a h) (carries-none (λ place. refl) refl (record { bytes-end = simp (flat, given-bytes); top-ends = simp (flat, given-bytes) }))
-carried op.BeginSpaceJoinBehind st v own s t (g-written {a = a}) h =
+by-op op.BeginSpaceJoinBehind st v own s t (g-written {a = a}) h =
     rw (depth-is a h) (carries-none (λ place. refl) refl (record { bytes-end = simp (flat, nodes-more, written-bytes); top-ends = simp (flat, nodes-more, written-bytes) }))
-carried op.BeginCommaJoin st v own s t (g-given {a = a}) h =
+by-op op.BeginCommaJoin st v own s t (g-given {a = a}) h =
     rw (depth-is a h) (carries-none (λ place. refl) refl (record { bytes-end = simp (flat, given-bytes); top-ends = simp (flat, given-bytes) }))
-carried op.BeginCommaJoinBehind st v own s t (g-written {a = a}) h =
+by-op op.BeginCommaJoinBehind st v own s t (g-written {a = a}) h =
     rw (depth-is a h) (carries-none (λ place. refl) refl (record { bytes-end = simp (flat, nodes-more, written-bytes); top-ends = simp (flat, nodes-more, written-bytes) }))
-carried op.NextEntry st v own s t (g-next (none-yet {a} {j = spaced})) h =
+by-op op.NextEntry st v own s t (g-next (none-yet {a} {j = spaced})) h =
     rw (code-kind a-spaced-block (depth a) h, code-depth a-spaced-block (depth a) h)
     (carries-none (passes [] 6) refl (record { bytes-end = simp (flat, no-bytes); top-ends = simp flat }))
-carried op.NextEntry st v own s t (g-next (none-yet {a} {j = commas})) h =
+by-op op.NextEntry st v own s t (g-next (none-yet {a} {j = commas})) h =
     rw (code-kind a-comma-block (depth a) h, code-depth a-comma-block (depth a) h)
     (carries-none (passes [] 6) refl (record { bytes-end = simp (flat, no-bytes); top-ends = simp flat }))
-carried op.NextEntry st v own s t (g-next (in-entry {a} {n} {m} {j = spaced} {h = g} {es})) h =
+by-op op.NextEntry st v own s t (g-next (in-entry {a} {n} {m} {j = spaced} {h = g} {es})) h =
     rw (code-kind a-spaced-entry (depth a) h, code-depth a-spaced-entry (depth a) h)
     (carries-one (passes [] 6) (in-join-tops a n spaced g es m) (entry-tag-is spaced (depth a) h) refl
     (record { bytes-end = simp (flat, spaced-more, no-bytes); top-ends = simp (flat, spaced-more) }))
-carried op.NextEntry st v own s t (g-next (in-entry {a} {n} {m} {j = commas} {h = g} {es})) h =
+by-op op.NextEntry st v own s t (g-next (in-entry {a} {n} {m} {j = commas} {h = g} {es})) h =
     rw (code-kind a-comma-entry (depth a) h, code-depth a-comma-entry (depth a) h)
     (carries-one (passes [] 6) (in-join-tops a n commas g es m) (entry-tag-is commas (depth a) h) refl
     (record { bytes-end = simp (flat, commas-more, no-bytes); top-ends = simp (flat, commas-more) }))
-carried op.EndSpaceJoin st v own s t (g-spaced (none-yet {a} {n} {h = g})) h =
+by-op op.EndSpaceJoin st v own s t (g-spaced (none-yet {a} {n} {h = g})) h =
     rw (code-kind a-spaced-block (depth a) h)
     (carries-one (passes [] 6) (begun-tops a n spaced g) (join-tag-is spaced (depth a) h) refl (record { bytes-end = simp (flat, nodes-more, space-join-bytes); top-ends = refl }))
-carried op.EndSpaceJoin st v own s t (g-spaced (in-entry {a} {n} {m} {h = g} {es})) h =
+by-op op.EndSpaceJoin st v own s t (g-spaced (in-entry {a} {n} {m} {h = g} {es})) h =
     rw (code-kind a-spaced-entry (depth a) h)
     (carries-two (passes [] 6) (in-join-tops a n spaced g es m) (entry-tag-is spaced (depth a) h) (block-tops (front-of a) n _ (header-bytes g) (joined-bytes spaced es)) (join-tag-is spaced (depth a) h) refl
     (record { bytes-end = simp (flat, nodes-more, space-join-bytes, spaced-more); top-ends = refl }))
-carried op.EndCommaJoin st v own s t (g-commas (none-yet {a} {n} {h = g})) h =
+by-op op.EndCommaJoin st v own s t (g-commas (none-yet {a} {n} {h = g})) h =
     rw (code-kind a-comma-block (depth a) h)
     (carries-one (passes (run-checks (run st v)) 6) (begun-tops a n commas g) (join-tag-is commas (depth a) h) refl
     (record { bytes-end = simp (flat, nodes-more, comma-join-none); top-ends = refl }))
-carried op.EndCommaJoin st v own s t (g-commas (in-entry {a} {n} {m} {h = g} {es})) h =
+by-op op.EndCommaJoin st v own s t (g-commas (in-entry {a} {n} {m} {h = g} {es})) h =
     rw (code-kind a-comma-entry (depth a) h)
     (carries-two (passes (run-checks (run st v)) 6) (in-join-tops a n commas g es m) (entry-tag-is commas (depth a) h) (block-tops (front-of a) n _ (header-bytes g) (joined-bytes commas es)) (join-tag-is commas (depth a) h) refl
     (record { bytes-end = simp (flat, nodes-more, comma-join-bytes); top-ends = refl }))
-carried op.Finish st v own s t g h = tt
+by-op op.Finish st v own s t g h = tt
+
+pub way-carried : (o : Op) (st : Style) (v : List ℕ) (own : Bool) {x : Step} {s t : Open} → asked o st v ≡ some x → Goes x s t → blocks s ≤ 32
+    → Carries (plan o (code-of s) own) st v x s t
+way-carried o st v own {s = s} {t} e g h =
+    subst (λ y. CarriesBy y (plan o (code-of s) own) st v s t) e (by-op o st v own s t (subst⁻¹ (λ y. GoesBy y s t) e g) h)
