@@ -5,4 +5,5 @@ pub mod Carried
 pub mod Ways
 pub mod Allowed
 pub mod Shows
+pub mod Shallow
 pub mod Simulation

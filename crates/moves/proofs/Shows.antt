@@ -1,10 +1,12 @@
 -- A buffer and two numbers that show a state of a script, and what holds of the state so that they can.
-use Rattle.rules.proofs.Basics.{_≡_, refl, sym, ap, _∙_, List, [], _++_, ℕ, _≤_, arith, length, take, drop, take-append-drop}
+use Rattle.rules.proofs.Basics.{_≡_, refl, sym, ap, _∙_, List, [], _++_, ℕ, _≤_, arith, length, length-append, take, drop, take-append-drop}
+use lib.Seq.{take-append-seam}
 use Rattle.rules.specs.Limits.{most-bytes, most-blocks}
 use Rattle.rules.specs.Result.{Result, refused, accepted}
 use Rattle.rules.specs.Encode.{encode, frag-fields, encode-fields}
 use Rattle.scripts.specs.Script.{Open, start, tree-of, onto, depth}
 use Rattle.scripts.specs.Shown.{nodes-bytes, front-of, shown, top-of}
+use Rattle.moves.specs.Stepped.{State}
 use Rattle.moves.proofs.Codes.{blocks}
 
 -- a file's bytes, and no block inside 32 others
@@ -30,3 +32,11 @@ shows-start b = record { held = refl; at-is = refl; in-room = omega arith; top-i
 -- the buffer is what is shown, and the rest
 pub shows-rest : {b : List ℕ} {at top : ℕ} {s : Open} → Shows b at top s → shown s ++ drop at b ≡ b
 shows-rest {b} {at} k = rw (← k .held) (take-append-drop at b)
+
+-- a state as a step leaves it: what is shown, and behind it the buffer as it was
+unfoldable pub state-in : (b : List ℕ) → Open → State
+state-in b t = record { bytes = shown t ++ drop (length (shown t)) b; at = length (shown t); top = top-of t; answer = accepted (length (shown t)) }
+
+pub shows-in : (b : List ℕ) {t : Open} → Fits t → length (shown t) ≤ length b → Shows (shown t ++ drop (length (shown t)) b) (length (shown t)) (top-of t) t
+shows-in b {t} k l =
+    record { held = take-append-seam (shown t) _; at-is = refl; in-room = omega (arith, length-append (shown t) (drop (length (shown t)) b)); top-is = refl; fits = k }
