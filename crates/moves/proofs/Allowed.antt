@@ -1,5 +1,5 @@
 -- The table of plans allows what the script's states allow: computed for each state, over the list of all steps.
-use Rattle.rules.proofs.Basics.{_≡_, refl, ap, List, [], _∷_, map, getD, Option, none, some, Bool, true, false, ℕ, _/_}
+use Rattle.rules.proofs.Basics.{_≡_, refl, sym, ap, _∙_, List, [], _∷_, map, getD, Option, none, some, Bool, true, false, ℕ, _/_}
 use Rattle.rules.specs.Result.{Result, refused, accepted}
 use Rattle.rules.specs.Tree.{indented, flexible}
 use Rattle.scripts.specs.Script.{spaced, commas, no-nodes, node, root, in-block, in-join, Open, in-fragment, in-anchor, between, begun}
@@ -53,28 +53,38 @@ all-allowed st v c own (begun a n spaced h) e f = rw e
 all-allowed st v c own (begun a n commas h) e f = rw e
 
 -- what agrees on the list agrees at each
-at-op : (f g : Op → Bool) → map f ops ≡ map g ops → (o : Op) → f o ≡ g o
+at-op : {A : Type 0} (f g : Op → A) → map f ops ≡ map g ops → (o : Op) → f o ≡ g o
 unfolding ops
-at-op f g e op.Text = ap (λ l. getD l 0 true) e
-at-op f g e op.Space = ap (λ l. getD l 1 true) e
-at-op f g e op.Force = ap (λ l. getD l 2 true) e
-at-op f g e op.Conditional = ap (λ l. getD l 3 true) e
-at-op f g e op.OpenDefinition = ap (λ l. getD l 4 true) e
-at-op f g e op.OpenUse = ap (λ l. getD l 5 true) e
-at-op f g e op.CloseAnchor = ap (λ l. getD l 6 true) e
-at-op f g e op.OpenIndented = ap (λ l. getD l 7 true) e
-at-op f g e op.OpenFlexible = ap (λ l. getD l 8 true) e
-at-op f g e op.CloseBlock = ap (λ l. getD l 9 true) e
-at-op f g e op.OpenFragment = ap (λ l. getD l 10 true) e
-at-op f g e op.CloseFragment = ap (λ l. getD l 11 true) e
-at-op f g e op.BeginSpaceJoin = ap (λ l. getD l 12 true) e
-at-op f g e op.BeginSpaceJoinBehind = ap (λ l. getD l 13 true) e
-at-op f g e op.BeginCommaJoin = ap (λ l. getD l 14 true) e
-at-op f g e op.BeginCommaJoinBehind = ap (λ l. getD l 15 true) e
-at-op f g e op.NextEntry = ap (λ l. getD l 16 true) e
-at-op f g e op.EndSpaceJoin = ap (λ l. getD l 17 true) e
-at-op f g e op.EndCommaJoin = ap (λ l. getD l 18 true) e
-at-op f g e op.Finish = ap (λ l. getD l 19 true) e
+at-op f g e op.Text = ap (λ l. getD l 0 (f op.Text)) e
+at-op f g e op.Space = ap (λ l. getD l 1 (f op.Text)) e
+at-op f g e op.Force = ap (λ l. getD l 2 (f op.Text)) e
+at-op f g e op.Conditional = ap (λ l. getD l 3 (f op.Text)) e
+at-op f g e op.OpenDefinition = ap (λ l. getD l 4 (f op.Text)) e
+at-op f g e op.OpenUse = ap (λ l. getD l 5 (f op.Text)) e
+at-op f g e op.CloseAnchor = ap (λ l. getD l 6 (f op.Text)) e
+at-op f g e op.OpenIndented = ap (λ l. getD l 7 (f op.Text)) e
+at-op f g e op.OpenFlexible = ap (λ l. getD l 8 (f op.Text)) e
+at-op f g e op.CloseBlock = ap (λ l. getD l 9 (f op.Text)) e
+at-op f g e op.OpenFragment = ap (λ l. getD l 10 (f op.Text)) e
+at-op f g e op.CloseFragment = ap (λ l. getD l 11 (f op.Text)) e
+at-op f g e op.BeginSpaceJoin = ap (λ l. getD l 12 (f op.Text)) e
+at-op f g e op.BeginSpaceJoinBehind = ap (λ l. getD l 13 (f op.Text)) e
+at-op f g e op.BeginCommaJoin = ap (λ l. getD l 14 (f op.Text)) e
+at-op f g e op.BeginCommaJoinBehind = ap (λ l. getD l 15 (f op.Text)) e
+at-op f g e op.NextEntry = ap (λ l. getD l 16 (f op.Text)) e
+at-op f g e op.EndSpaceJoin = ap (λ l. getD l 17 (f op.Text)) e
+at-op f g e op.EndCommaJoin = ap (λ l. getD l 18 (f op.Text)) e
+at-op f g e op.Finish = ap (λ l. getD l 19 (f op.Text)) e
 
 pub allowed-is : (o : Op) (st : Style) (v : List ℕ) (c : ℕ) (own : Bool) (s : Open) → c / 32 ≡ kind-of s → Owns own s → plan o c own .allowed ≡ can (asked o st v) s
 allowed-is o st v c own s e f = at-op (λ o. plan o c own .allowed) (λ o. can (asked o st v) s) (all-allowed st v c own s e f) o
+
+-- ---- only finishing asks for no step
+
+finish-or : Option Step → Op → Op
+finish-or none o = op.Finish
+finish-or (some x) o = o
+
+pub asks-none : (o : Op) (st : Style) (v : List ℕ) → asked o st v ≡ none → o ≡ op.Finish
+unfolding ops asked finish-or
+asks-none o st v e = sym (at-op (λ o. finish-or (asked o st v) o) (λ o. o) refl o) ∙ rw e

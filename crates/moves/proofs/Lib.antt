@@ -7,3 +7,4 @@ pub mod Allowed
 pub mod Shows
 pub mod Shallow
 pub mod Simulation
+pub mod Runs

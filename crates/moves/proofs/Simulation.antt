@@ -106,6 +106,11 @@ module _ (s : Open) (k : Fits s) (r : List ℕ) where
           plan-taken r (allowed-here op.Finish st v ∙ rw f) (finish-carried st v)
           ∙ rw (f, le-leb (length (shown s)) most-bytes (k .short), le-leb (length (shown s)) (length (shown s ++ r)) room)
 
+pub fits-after : (room : ℕ) (x : Step) (s t : Open) → step room x s ≡ accepted t → Fits s → Fits t
+fits-after room x s t e k =
+    let h = taken room x s t e in
+    record { short = h .short; shallow = shallow-after (goes x s t (h .is-allowed)) (h .is-sound) (k .shallow) }
+
 -- ---- THE THEOREM: one equation, from which the others follow
 
 module _ {b : List ℕ} {at top : ℕ} {s : Open} (k : Shows b at top s) where
@@ -125,11 +130,7 @@ module _ {b : List ℕ} {at top : ℕ} {s : Open} (k : Shows b at top s) where
   pub accepted-as : (o : Op) (st : Style) (v : List ℕ) (x : Step) (t : Open) → asked o st v ≡ some x → step (length b) x s ≡ accepted t
       → (stepped o st v b at top ≡ state-in b t) × Shows (shown t ++ drop (length (shown t)) b) (length (shown t)) (top-of t) t
   unfolding stepped left state-in shown-in
-  accepted-as o st v x t e f =
-      let k′ = taken (length b) x s t f in (
-        rw (answers-as o st v x e, f),
-        shows-in b (record { short = k′ .short; shallow = shallow-after (goes x s t (k′ .is-allowed)) (k′ .is-sound) (k .fits .shallow) }) (k′ .roomy),
-      )
+  accepted-as o st v x t e f = (rw (answers-as o st v x e, f), shows-in b (fits-after (length b) x s t f (k .fits)) (taken (length b) x s t f .roomy))
 
   -- finishing changes nothing, and answers where the writer is
   pub finish-as : (st : Style) (v : List ℕ) → stepped op.Finish st v b at top ≡ record { bytes = b; at = at; top = top; answer = finish s >>= λ n. accepted at }
