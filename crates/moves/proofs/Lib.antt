@@ -8,3 +8,5 @@ pub mod Shows
 pub mod Shallow
 pub mod Simulation
 pub mod Runs
+pub mod Styles
+pub mod CallsOf
