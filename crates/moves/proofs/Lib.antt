@@ -10,3 +10,4 @@ pub mod Simulation
 pub mod Runs
 pub mod Styles
 pub mod CallsOf
+pub mod Promises
