@@ -11,3 +11,5 @@ pub mod Runs
 pub mod Styles
 pub mod CallsOf
 pub mod Promises
+pub mod Open
+pub mod Examples
