@@ -10,7 +10,7 @@ use Rattle.moves.specs.declared.Plan.{Plan}
 use Rattle.moves.specs.Opened.{link-at, true-tag, closed-bytes, closed-top}
 use Rattle.moves.specs.Plans.{piece-bytes, opened-header, opened-top, plan-checks, closable}
 use Rattle.moves.specs.Stepped.{Written, carried-out}
-use Rattle.moves.proofs.Closing.{Tops, tops-more, tops-link, tops-closed, both-closed, both-link}
+use Rattle.moves.proofs.Closing.{Tops, tops-more, tops-link, one-bytes, one-top, two-bytes, two-top}
 
 -- what a state of a script shows
 abbrev pub shows-of : Open → Written
@@ -48,19 +48,19 @@ module _ {p : Plan} {st : Style} {v : List ℕ} {x : Step} {s t : Open} (check :
 
   pub carries-one : {u : List ℕ} {c q tag : ℕ} {w : List ℕ} → Tops (shown s) (top-of s) u c q w → true-tag (c / 32) ≡ tag → p .closes ≡ 1
       → Ends p st v (u ++ field tag (w ++ piece-bytes (p .before) st v)) q t → Carries p st v x s t
-  unfolding carried-out closable closed-bytes closed-top
+  unfolding carried-out closable
   carries-one k g n e =
       let m = tops-more (piece-bytes (p .before) st v) k in
       record {
         closing = λ r. rw (n, le-leb 1 (top-of s) (omega (arith, k .top-is)));
         checked = check;
-        written = rw (n, tops-closed m, tops-link m, g) (λ i. record { bytes = e .bytes-end i; top = e .top-ends i });
+        written = rw (n, one-bytes m, one-top m, g) (λ i. record { bytes = e .bytes-end i; top = e .top-ends i });
       }
 
   pub carries-two : {u : List ℕ} {c q tag : ℕ} {w u′ : List ℕ} {c′ q′ tag′ : ℕ} {d : List ℕ}
       → Tops (shown s) (top-of s) u c q w → true-tag (c / 32) ≡ tag → Tops u q u′ c′ q′ d → true-tag (c′ / 32) ≡ tag′ → p .closes ≡ 2
       → Ends p st v (u′ ++ field tag′ (d ++ field tag (w ++ piece-bytes (p .before) st v))) q′ t → Carries p st v x s t
-  unfolding carried-out closable closed-bytes closed-top
+  unfolding carried-out closable
   carries-two {u} {c} {q} {tag} {w} {u′} {c′} {q′} {tag′} {d} k g k′ g′ n e =
       let m = tops-more (piece-bytes (p .before) st v) k in
       let a : top-of s ≡ suc (length u) = k .top-is in
@@ -69,5 +69,5 @@ module _ {p : Plan} {st : Style} {v : List ℕ} {x : Step} {s t : Open} (check :
       record {
         closing = λ r. rw (n, tops-link (tops-more r k), le-leb 1 (top-of s) (omega arith), le-leb 1 q (omega arith), lt-ltb q (top-of s) (omega arith));
         checked = check;
-        written = rw (n, both-closed m k′, both-link m k′, g, g′) (λ i. record { bytes = e .bytes-end i; top = e .top-ends i });
+        written = rw (n, two-bytes m k′, two-top m k′, g, g′) (λ i. record { bytes = e .bytes-end i; top = e .top-ends i });
       }

@@ -47,16 +47,26 @@ module _ {w : List ℕ} {top : ℕ} {u : List ℕ} {c p : ℕ} {v : List ℕ} wh
       rw (k .bytes-are, k .top-is, n, add-one, sub-one, getD-append-seam)
       (sets-eq vs (u ++ (open-header c p ++ v)) (length u) (omega arith) ∙ rw (t, d, append-assoc))
 
+  -- as a step closes one
+  pub one-bytes : Tops w top u c p v → closed-bytes w (length w) top 1 ≡ u ++ field (true-tag (c / 32)) v
+  unfolding closed-bytes
+  one-bytes k = tops-closed k
+
+  pub one-top : Tops w top u c p v → closed-top w (length w) top 1 ≡ p
+  unfolding closed-top
+  one-top k = tops-link k
+
 -- two closed, the outer one that of which the inner one's link is the place
 module _ {w : List ℕ} {top : ℕ} {u : List ℕ} {c p : ℕ} {v u′ : List ℕ} {c′ p′ : ℕ} {d : List ℕ} (k : Tops w top u c p v) (k′ : Tops u p u′ c′ p′ d) where
   outer : Tops (closed-in w (length w) top) p u′ c′ p′ (d ++ field (true-tag (c / 32)) v)
   outer = rw (tops-closed k) (tops-more (field (true-tag (c / 32)) v) k′)
 
-  pub both-closed : closed-in (closed-in w (length w) top) (length w) (link-at w top) ≡ u′ ++ field (true-tag (c′ / 32)) (d ++ field (true-tag (c / 32)) v)
-  unfolding field
-  both-closed =
+  pub two-bytes : closed-bytes w (length w) top 2 ≡ u′ ++ field (true-tag (c′ / 32)) (d ++ field (true-tag (c / 32)) v)
+  unfolding closed-bytes field
+  two-bytes =
       let n : length w ≡ length (closed-in w (length w) top) = rw (tops-closed k, k .bytes-are) (length-append u _ ∙ sym (length-append u _)) in
       rw (tops-link k) (ap (λ m. closed-in (closed-in w (length w) top) m p) n ∙ tops-closed outer)
 
-  pub both-link : link-at (closed-in w (length w) top) (link-at w top) ≡ p′
-  both-link = rw (tops-link k) (tops-link outer)
+  pub two-top : closed-top w (length w) top 2 ≡ p′
+  unfolding closed-top
+  two-top = rw (tops-link k) (tops-link outer)
