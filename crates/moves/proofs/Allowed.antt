@@ -6,7 +6,6 @@ use Rattle.scripts.specs.Script.{spaced, commas, no-nodes, node, root, in-block
 use Rattle.scripts.specs.Shown.{block-opened, join-opened, entry-opened, opened-number}
 use Rattle.scripts.specs.Steps.{Step, leaf-put, text-put, anchor-opened, anchor-closed, block-begun, block-closed, fragment-opened, fragment-closed-in, fragment-closed, begun-behind, join-begun, entry-after, entry-next, space-ended, comma-ended, ended-in, join-ended, allows, finished-in, finish}
 use Rattle.moves.specs.declared.Style.{Style}
-use Rattle.moves.specs.declared.Plan.{Plan}
 use Rattle.moves.specs.declared.Op.{Op}
 use Rattle.moves.specs.declared.Op.the-variants as op
 use Rattle.moves.specs.Plans.{fragment-here, plan, puts, shuts, opens, begins, next-plan, end-space-plan, end-comma-plan}
@@ -32,9 +31,10 @@ ops =
 all-allowed : (st : Style) (v : List ℕ) (c : ℕ) (own : Bool) (s : Open) → c / 32 ≡ kind-of s → Owns own s
     → map (λ o. plan o c own .allowed) ops ≡ map (λ o. can (asked o st v) s) ops
 unfolding
-    ops plan fragment-here puts shuts opens begins next-plan end-space-plan end-comma-plan kind-of around-kind opened-number block-opened join-opened entry-opened has-nodes
-    can is-some is-accepted asked allows leaf-put text-put anchor-opened anchor-closed block-begun block-closed fragment-opened fragment-closed fragment-closed-in join-begun
-    begun-behind entry-next entry-after join-ended ended-in space-ended comma-ended finish finished-in
+    ops plan fragment-here puts shuts opens begins next-plan end-space-plan end-comma-plan
+    kind-of around-kind opened-number block-opened join-opened entry-opened has-nodes can is-some is-accepted asked
+    allows leaf-put text-put anchor-opened anchor-closed block-begun block-closed fragment-opened fragment-closed fragment-closed-in
+    join-begun begun-behind entry-next entry-after join-ended ended-in space-ended comma-ended finish finished-in
 all-allowed st v c own (in-fragment root no-nodes) e f = rw (e, f)
 all-allowed st v c own (in-fragment root (node n x)) e f = rw (e, f)
 all-allowed st v c own (in-fragment (in-block a m k es) no-nodes) e f = rw (e, f)
@@ -73,7 +73,8 @@ at-op f g e op.EndSpaceJoin = ap (λ l. getD l 17 (f op.Text)) e
 at-op f g e op.EndCommaJoin = ap (λ l. getD l 18 (f op.Text)) e
 at-op f g e op.Finish = ap (λ l. getD l 19 (f op.Text)) e
 
-pub allowed-is : (o : Op) (st : Style) (v : List ℕ) (c : ℕ) (own : Bool) (s : Open) → c / 32 ≡ kind-of s → Owns own s → plan o c own .allowed ≡ can (asked o st v) s
+pub allowed-is : (o : Op) (st : Style) (v : List ℕ) (c : ℕ) (own : Bool) (s : Open) → c / 32 ≡ kind-of s → Owns own s
+    → plan o c own .allowed ≡ can (asked o st v) s
 allowed-is o st v c own s e f = at-op (λ o. plan o c own .allowed) (λ o. can (asked o st v) s) (all-allowed st v c own s e f) o
 
 -- ---- only finishing asks for no step

@@ -1,5 +1,5 @@
 -- Calls and steps: what a call asks for is formed, and a formed step's call asks for it.
-use Rattle.rules.proofs.Basics.{_≡_, refl, ap, _∙_, subst, List, [], _∷_, map, Option, none, some, Bool, true, false, ℕ, _≤_, length}
+use Rattle.rules.proofs.Basics.{_≡_, refl, ap, _∙_, subst, List, [], _∷_, Option, none, some, Bool, true, false, ℕ, _≤_, length}
 use Rattle.rules.specs.Result.{accepted, _>>=_}
 use Rattle.rules.specs.Tree.{Run, indented, flexible}
 use Rattle.rules.proofs.Chains.{bind-inv}
@@ -12,7 +12,7 @@ use Rattle.moves.specs.declared.Style.{Style}
 use Rattle.moves.specs.declared.Op.{Op}
 use Rattle.moves.specs.declared.Op.the-variants as op
 use Rattle.moves.specs.Style.{style-fields, there, style-of, run}
-use Rattle.moves.specs.Asked.{Call, asked, before-others, script, called, calls}
+use Rattle.moves.specs.Asked.{Call, asked, before-others, script, calls}
 use Rattle.moves.specs.ReadOff.{Sized, AllSized, no-style, style-record, with-run, with-text, call-of, calls-of}
 use Rattle.moves.proofs.Styles.{style-rises, run-back, sized-record}
 use Rattle.moves.proofs.Shows.{Fits}

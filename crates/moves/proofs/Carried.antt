@@ -1,5 +1,5 @@
 -- What a plan carries out from one state of a script to another, by how many fields it closes.
-use Rattle.rules.proofs.Basics.{_≡_, refl, sym, ap, _∙_, List, [], _∷_, _++_, true, _&&_, ℕ, suc, _+_, _/_, _≤_, arith, leb, ltb, length, length-append, le-leb, lt-ltb}
+use Rattle.rules.proofs.Basics.{_≡_, refl, ap, _∙_, List, [], _∷_, _++_, true, ℕ, suc, _+_, _/_, arith, length, length-append, le-leb, lt-ltb}
 use Rattle.rules.specs.Result.{Check, _or-refuse_, sound, need, _>>_}
 use Rattle.rules.specs.Encode.{field}
 use Rattle.scripts.specs.Script.{Open}
@@ -7,7 +7,7 @@ use Rattle.scripts.specs.Shown.{open-header, shown, top-of}
 use Rattle.scripts.specs.Steps.{Step, checks, depth-of}
 use Rattle.moves.specs.declared.Style.{Style}
 use Rattle.moves.specs.declared.Plan.{Plan}
-use Rattle.moves.specs.Opened.{link-at, true-tag, closed-bytes, closed-top}
+use Rattle.moves.specs.Opened.{true-tag, closed-bytes, closed-top}
 use Rattle.moves.specs.Plans.{piece-bytes, opened-header, opened-top, plan-checks, closable}
 use Rattle.moves.specs.Stepped.{Written, carried-out}
 use Rattle.moves.proofs.Closing.{Tops, tops-more, tops-link, one-bytes, one-top, two-bytes, two-top}
@@ -16,11 +16,14 @@ use Rattle.moves.proofs.Closing.{Tops, tops-more, tops-link, one-bytes,
 abbrev pub shows-of : Open → Written
 shows-of s = record { bytes = shown s; top = top-of s }
 
+-- a plan asks what a step asks
+abbrev pub Asks : Plan → Style → List ℕ → Step → Open → Type 0
+Asks p st v x s = (place : ℕ) → sound (plan-checks p st v) place ≡ sound (checks x (depth-of s)) place
+
 pub record Carries (p : Plan) (st : Style) (v : List ℕ) (x : Step) (s t : Open) : Type 0 where
   -- the fields that it closes are open, whatever the buffer holds behind
   pub closing : (r : List ℕ) → closable (shown s ++ r) (top-of s) (p .closes) ≡ true
-  -- it asks what the step asks
-  pub checked : (place : ℕ) → sound (plan-checks p st v) place ≡ sound (checks x (depth-of s)) place
+  pub checked : Asks p st v x s
   pub written : carried-out p st v (shows-of s) ≡ shows-of t
 
 -- checks with one behind that holds
@@ -36,7 +39,11 @@ pub record Ends (p : Plan) (st : Style) (v c : List ℕ) (q : ℕ) (t : Open) : 
   pub bytes-end : (c ++ opened-header (p .opens) (p .code) q) ++ piece-bytes (p .behind) st v ≡ shown t
   pub top-ends : opened-top (p .opens) (length c) q ≡ top-of t
 
-module _ {p : Plan} {st : Style} {v : List ℕ} {x : Step} {s t : Open} (check : (place : ℕ) → sound (plan-checks p st v) place ≡ sound (checks x (depth-of s)) place) where
+pub ends : {p : Plan} {st : Style} {v c : List ℕ} {q : ℕ} {t : Open} → (c ++ opened-header (p .opens) (p .code) q) ++ piece-bytes (p .behind) st v ≡ shown t
+    → opened-top (p .opens) (length c) q ≡ top-of t → Ends p st v c q t
+ends e f = record { bytes-end = e; top-ends = f }
+
+module _ {p : Plan} {st : Style} {v : List ℕ} {x : Step} {s t : Open} (check : Asks p st v x s) where
   -- none is closed
   pub carries-none : p .closes ≡ 0 → Ends p st v (shown s ++ piece-bytes (p .before) st v) (top-of s) t → Carries p st v x s t
   unfolding carried-out closable closed-bytes closed-top

@@ -1,5 +1,5 @@
 -- The innermost open field: its code and its link are read off its header, and closing it makes it the field of what stands behind.
-use Rattle.rules.proofs.Basics.{_≡_, refl, sym, ap, ap₂, _∙_, List, [], _∷_, _++_, append-assoc, true, _||_, or-true, ℕ, suc, _+_, _-_, _*_, _/_, _%_, arith, leb, eqb, le-leb, length, length-append, take, drop, getD, div-add-mod', sets-eq, add-one, sub-one}
+use Rattle.rules.proofs.Basics.{_≡_, refl, sym, ap, _∙_, List, [], _∷_, _++_, append-assoc, true, _||_, or-true, ℕ, suc, _+_, _-_, _/_, _%_, arith, leb, eqb, le-leb, length, length-append, take, drop, sets-eq, add-one, sub-one}
 use lib.Seq.{getD-append-seam, getD-append-add, take-append-seam, drop-append-add}
 use Rattle.rules.specs.Encode.{field}
 use Rattle.scripts.specs.Shown.{open-header}

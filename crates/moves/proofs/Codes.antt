@@ -1,11 +1,11 @@
 -- The code of what is open in each state of a script: its kind, its depth, and whether the open fragment has nodes of its own.
-use Rattle.rules.proofs.Basics.{_≡_, refl, sym, ap, _∙_, List, [], _∷_, _++_, append-assoc, Bool, true, false, _||_, ℕ, suc, _+_, _*_, _/_, _%_, _≤_, _<_, arith, leb, ltb, eqb, length, length-append, _⊎_, inl, inr, lt-ltb, le-ltb, ne-eqb}
+use Rattle.rules.proofs.Basics.{_≡_, refl, ap, List, [], _++_, append-assoc, Bool, true, false, _||_, ℕ, suc, _+_, _/_, _%_, _≤_, _<_, arith, leb, ltb, eqb, length, length-append, _⊎_, inl, inr, lt-ltb, le-ltb, ne-eqb}
 use Rattle.rules.specs.Tree.{Run, Leaf, text, anchor, space, force, if-block, Kind, stop}
 use Rattle.rules.specs.Encode.{field, encode, anchor-tag}
 use Rattle.rules.proofs.Turned.{leaf-bytes}
 use Rattle.rules.proofs.SoundFields.{length-field}
 use Rattle.scripts.specs.Script.{Join, spaced, commas, Nodes, no-nodes, node, Node, lone, blocked, spaced-join, comma-join, Header, Entries, no-entries, entry, onto, node-onto, tree-of, Around, root, in-block, in-join, Open, in-fragment, in-anchor, between, begun, depth}
-use Rattle.scripts.specs.Shown.{Opened, a-fragment, a-spaced-entry, a-comma-entry, an-anchor, block-opened, join-opened, entry-opened, opened-number, code, open-header, nodes-bytes, header-bytes, runs-bytes, entries-bytes, joined-bytes, lead, Front, before-entry, entry-front, block-top, front-of, shown, top-of}
+use Rattle.scripts.specs.Shown.{Opened, a-fragment, a-spaced-entry, a-comma-entry, an-anchor, block-opened, join-opened, entry-opened, opened-number, code, nodes-bytes, header-bytes, runs-bytes, entries-bytes, joined-bytes, lead, Front, before-entry, entry-front, block-top, front-of, shown, top-of}
 use Rattle.scripts.proofs.BytesLaws.{nodes-more, lone-bytes, block-bytes, stop-bytes}
 use Rattle.scripts.proofs.Joined.{space-join-bytes, comma-join-none, comma-join-bytes}
 use Rattle.moves.specs.Opened.{root-code, code-at}
@@ -85,7 +85,7 @@ depth-is (in-join a n j g es) h = entry-depth (entry-opened j) (depth a) (entry-
 -- ---- the header that is open
 
 -- a block that is open behind nodes and a join's header, with what stands in it
-pub block-tops : (f : Front) (n : Nodes) (c : ℕ) (h d : List ℕ) → Tops (before-entry f n c h d) (block-top f n h) (f .before ++ (nodes-bytes n ++ h)) c (f .top) d
+block-tops : (f : Front) (n : Nodes) (c : ℕ) (h d : List ℕ) → Tops (before-entry f n c h d) (block-top f n h) (f .before ++ (nodes-bytes n ++ h)) c (f .top) d
 unfolding before-entry block-top
 block-tops f n c h d = tops-here _ c _ d
 
@@ -106,11 +106,16 @@ module _ (a : Around) (n : Nodes) where
   unfolding shown top-of
   between-tops k es = block-tops _ _ _ _ _
 
+  pub join-tops : (j : Join) (h : Header) (es : Entries)
+      → Tops (before-entry (front-of a) n (code (join-opened j) (depth a)) (header-bytes h) (joined-bytes j es)) (block-top (front-of a) n (header-bytes h))
+      (front-of a .before ++ (nodes-bytes n ++ header-bytes h)) (code (join-opened j) (depth a)) (front-of a .top) (joined-bytes j es)
+  join-tops j h es = block-tops _ _ _ _ _
+
   pub begun-tops : (j : Join) (h : Header)
       → Tops (shown (begun a n j h)) (top-of (begun a n j h))
       (front-of a .before ++ (nodes-bytes n ++ header-bytes h)) (code (join-opened j) (depth a)) (front-of a .top) []
-  unfolding shown top-of
-  begun-tops j h = block-tops _ _ _ _ _
+  unfolding shown top-of joined-bytes
+  begun-tops j h = join-tops j h no-entries
 
   pub fragment-tops : (k : Kind) (es : Entries) (m : Nodes)
       → Tops (shown (in-fragment (in-block a n k es) m)) (top-of (in-fragment (in-block a n k es) m))
@@ -125,14 +130,17 @@ module _ (a : Around) (n : Nodes) where
   unfolding shown top-of front-of
   in-join-tops j h es m = entry-tops _ _ _ _ _
 
--- nothing is open, or a header is, with the state's code
-pub record Headed (s : Open) : Type 0 where
-  pub front : List ℕ
-  pub link : ℕ
-  pub behind : List ℕ
-  pub tops : Tops (shown s) (top-of s) front (code-of s) link behind
+-- a header is open, with the state's code; or nothing is
+record Headed (s : Open) : Type 0 where
+  front : List ℕ
+  link : ℕ
+  behind : List ℕ
+  tops : Tops (shown s) (top-of s) front (code-of s) link behind
 
-pub headed : (s : Open) → ((top-of s ≡ 0) × (code-of s ≡ root-code)) ⊎ Headed s
+abbrev Topped : Open → Type 0
+Topped s = ((top-of s ≡ 0) × (code-of s ≡ root-code)) ⊎ Headed s
+
+headed : (s : Open) → Topped s
 unfolding top-of front-of code-of around-code
 headed (in-fragment root n) = inl (refl, refl)
 headed (in-fragment (in-block a m k es) n) = inr (record { front = _; link = _; behind = _; tops = fragment-tops a m k es n })
@@ -145,7 +153,7 @@ pub code-is : (s : Open) (r : List ℕ) → code-at (shown s ++ r) (top-of s) �
 unfolding code-at
 code-is s r = go (headed s)
   where
-    go : ((top-of s ≡ 0) × (code-of s ≡ root-code)) ⊎ Headed s → code-at (shown s ++ r) (top-of s) ≡ code-of s
+    go : Topped s → code-at (shown s ++ r) (top-of s) ≡ code-of s
     go (inl (e, f)) = rw (e, f) refl
     go (inr h) = tops-code (tops-more r (h .tops))
 
@@ -153,7 +161,7 @@ code-is s r = go (headed s)
 pub stands : (s : Open) → (eqb (top-of s) 0 || leb (top-of s + 2) (length (shown s))) ≡ true
 stands s = go (headed s)
   where
-    go : ((top-of s ≡ 0) × (code-of s ≡ root-code)) ⊎ Headed s → (eqb (top-of s) 0 || leb (top-of s + 2) (length (shown s))) ≡ true
+    go : Topped s → (eqb (top-of s) 0 || leb (top-of s + 2) (length (shown s))) ≡ true
     go (inl (e, f)) = rw e
     go (inr h) = tops-stands (h .tops)
 
@@ -201,8 +209,10 @@ first-is : (a : Around) → depth a ≤ 32 → first-node (around-code a) (front
 unfolding first-node around-code front-of depth entry-front opened-number entry-opened lead
 first-is root h = refl
 first-is (in-block a n k es) h = rw (not-root a-fragment (depth a) (omega arith) h, code-kind a-fragment (depth a) h) (simp length-append (omega arith))
-first-is (in-join a n spaced g es) h = rw (not-root a-spaced-entry (depth a) (omega arith) h, code-kind a-spaced-entry (depth a) h) (simp (length-append, length-field) (omega arith))
-first-is (in-join a n commas g es) h = rw (not-root a-comma-entry (depth a) (omega arith) h, code-kind a-comma-entry (depth a) h) (simp length-append (omega arith))
+first-is (in-join a n spaced g es) h =
+    rw (not-root a-spaced-entry (depth a) (omega arith) h, code-kind a-spaced-entry (depth a) h) (simp (length-append, length-field) (omega arith))
+first-is (in-join a n commas g es) h =
+    rw (not-root a-comma-entry (depth a) (omega arith) h, code-kind a-comma-entry (depth a) h) (simp length-append (omega arith))
 
 own-is : (a : Around) (n : Nodes) → depth a ≤ 32 → ltb (first-node (around-code a) (front-of a .top)) (length (shown (in-fragment a n))) ≡ has-nodes n
 unfolding shown

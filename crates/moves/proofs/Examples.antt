@@ -1,13 +1,12 @@
 -- Calls, computed: P1's file over a buffer that holds it and over one that does not, and states that no writer has.
-use Rattle.rules.proofs.Basics.{_≡_, refl, List, [], _∷_, _++_, map, none, some, ℕ, replicate}
-use Prim.Native.String.{String}
+use Rattle.rules.proofs.Basics.{_≡_, refl, List, [], _∷_, map, ℕ, replicate}
 use Rattle.rules.specs.Bytes.{ascii}
-use Rattle.rules.specs.Result.{Result, refused, accepted}
+use Rattle.rules.specs.Result.{refused, accepted}
 use Rattle.rules.specs.Cases.{unhex}
 use Rattle.moves.specs.declared.Op.{Op}
 use Rattle.moves.specs.declared.Op.the-variants as op
 use Rattle.moves.specs.Stepped.{State, stepped}
-use Rattle.moves.specs.Asked.{Call, Held, fresh, calls}
+use Rattle.moves.specs.Asked.{Call, fresh, calls}
 use Rattle.moves.specs.ReadOff.{no-style, with-text}
 use Rattle.moves.proofs.Open.{moves-open}
 
@@ -20,7 +19,9 @@ p1 =
 -- in 52 bytes and one more, which stays
 pub p1-written : calls p1 (fresh (replicate 53 255))
     ≡ accepted (record {
-        bytes = unhex "0100051100026628 040022 080011 01000411000161 0100041100012C 050000 08000B 01000411000162 0700012C 01000411000129 FF"; at = 52; top = 0;
+      bytes = unhex "0100051100026628 040022 080011 01000411000161 0100041100012C 050000 08000B 01000411000162 0700012C 01000411000129 FF";
+      at = 52;
+      top = 0;
     })
 unfolding moves-open
 p1-written = refl

@@ -14,5 +14,6 @@ unfolding
     code-at link-at true-tag closed-in closed-bytes closed-top
     fragment-here depth-in shuts puts opens begins next-plan end-space-plan end-comma-plan plan first-node piece-bytes piece-size piece-checks
     opened-header opened-top header-size plan-size plan-checks first-fault sane closable
-    carried-out left fitting planned answered stepped said asked before-others script held-after called calls is-some or-else no-style style-record call-of calls-of
+    carried-out left fitting planned answered stepped said asked before-others script held-after called calls
+    is-some or-else no-style style-record call-of calls-of
 moves-open = 0

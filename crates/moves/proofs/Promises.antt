@@ -1,6 +1,6 @@
 -- THE PROMISES OF A WRITER, as theorems over its contract: what calls accepted in a row and finished leave, what an accepted file is read off as, what a
 -- refused call leaves.
-use Rattle.rules.proofs.Basics.{_≡_, refl, sym, ap, _∙_, subst⁻¹, List, [], _++_, ℕ, _≤_, arith, length, take, drop, take-at}
+use Rattle.rules.proofs.Basics.{_≡_, sym, ap, _∙_, subst⁻¹, List, [], _++_, ℕ, _≤_, arith, length, take, drop, take-at}
 use Rattle.rules.specs.Result.{Result, refused, accepted, _>>=_}
 use Rattle.rules.specs.Tree.{Run, Frag, stop, none-left}
 use Rattle.rules.specs.Encode.{encode, frag-fields, encode-fields}
@@ -30,7 +30,7 @@ use Rattle.moves.specs.ReadOff.{AllSized, calls-of}
 use Rattle.moves.proofs.Codes.{blocks}
 use Rattle.moves.proofs.Shows.{Fits, start-fits, shows-in}
 use Rattle.moves.proofs.Simulation.{finish-as}
-use Rattle.moves.proofs.Runs.{held-in, fresh-held, drop-later, Ran, calls-ran}
+use Rattle.moves.proofs.Runs.{held-in, fresh-held, drop-later, calls-ran}
 use Rattle.moves.proofs.CallsOf.{script-formed, script-back, calls-back}
 
 -- ---- A FINISHED WRITER'S BYTES ARE AN ACCEPTED FILE, as the tree that its calls asked for
@@ -47,7 +47,8 @@ pub record Finished (b : List ℕ) (cs : List Call) (h : Held) (n : ℕ) : Type 
   pub later : drop n (h .bytes) ≡ drop n b
 
 finished-at : (b : List ℕ) (cs : List Call) (t : Open) (st : Style) (v : List ℕ) (n : ℕ) → AllSized cs → steps (length b) (script cs) start ≡ accepted t → Fits t
-    → length (shown t) ≤ length b → stepped op.Finish st v (held-in b t .bytes) (held-in b t .at) (held-in b t .top) .answer ≡ accepted n → Finished b cs (held-in b t) n
+    → length (shown t) ≤ length b → stepped op.Finish st v (held-in b t .bytes) (held-in b t .at) (held-in b t .top) .answer ≡ accepted n
+    → Finished b cs (held-in b t) n
 unfolding held-in
 finished-at b cs t st v n z e k l f =
     let (m, g, q) = bind-inv (finish t) _ n (sym (ap (λ (w : State). w .answer) (finish-as (shows-in b k l) st v)) ∙ f) in

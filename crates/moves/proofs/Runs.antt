@@ -1,7 +1,6 @@
 -- Calls in a row: what an accepted run leaves is what its script's steps show, with the caller's bytes behind.
-use Rattle.rules.proofs.Basics.{_≡_, refl, sym, ap, _∙_, subst, List, [], _∷_, _++_, Option, none, some, ℕ, _+_, _-_, _≤_, arith, length, length-append, length-drop, drop, drop-drop}
+use Rattle.rules.proofs.Basics.{_≡_, refl, sym, _∙_, List, [], _∷_, _++_, Option, none, some, ℕ, _+_, _-_, _≤_, arith, length, length-append, length-drop, drop, drop-drop}
 use lib.Seq.{drop-append-add}
-use Rattle.rules.specs.Limits.{most-bytes}
 use Rattle.rules.specs.Result.{Result, refused, accepted, _>>=_}
 use Rattle.rules.specs.Encode.{encode, frag-fields, encode-fields}
 use Rattle.rules.proofs.Chains.{no-path, bind-inv}
@@ -10,13 +9,10 @@ use Rattle.scripts.specs.Shown.{nodes-bytes, front-of, shown, top-of}
 use Rattle.scripts.specs.Steps.{Step, step, steps, finish}
 use Rattle.scripts.proofs.Ways.{goes, taken}
 use Rattle.scripts.proofs.Longer.{longer}
-use Rattle.moves.specs.declared.Style.{Style}
-use Rattle.moves.specs.declared.Op.{Op}
-use Rattle.moves.specs.declared.Op.the-variants as op
 use Rattle.moves.specs.Stepped.{State, left, stepped}
 use Rattle.moves.specs.Asked.{Call, asked, before-others, script, Held, fresh, held-after, called, calls}
 use Rattle.moves.proofs.Allowed.{asks-none}
-use Rattle.moves.proofs.Shows.{Fits, start-fits, Shows, shows-in, state-in}
+use Rattle.moves.proofs.Shows.{Fits, shows-in}
 use Rattle.moves.proofs.Simulation.{shown-in, fits-after, answers-as, finish-as}
 
 -- a writer's buffer that shows a state, of which the bytes behind are those of b
@@ -37,6 +33,14 @@ drop-later u b n l =
     let e : n ≡ length u + (n - length u) = omega arith in
     rw e (drop-append-add u (drop (length u) b) _ ∙ drop-drop (n - length u) (length u) b)
 
+-- finishing leaves what was held
+finish-held : (r : Result Nodes) (h : Held)
+    → (let w : State = record { bytes = h .bytes; at = h .at; top = h .top; answer = r >>= λ n. accepted (h .at) } in held-after w (w .answer))
+    ≡ (r >>= λ n. accepted h)
+unfolding held-after _>>=_
+finish-held (refused n p) h = refl
+finish-held (accepted n) h = refl
+
 module _ (b : List ℕ) (s : Open) (k : Fits s) (l : length (shown s) ≤ length b) where
   as-long : length (shown s ++ drop (length (shown s)) b) ≡ length b
   as-long = simp (length-append, length-drop) (omega arith)
@@ -51,13 +55,9 @@ module _ (b : List ℕ) (s : Open) (k : Fits s) (l : length (shown s) ≤ length
       go (accepted t) f = rw (drop-later (shown s) b (length (shown t)) (longer (goes x s t (taken (length b) x s t f .is-allowed))))
 
   pub called-finish : (c : Call) → asked (c .op) (c .style) (c .text) ≡ none → called c (held-in b s) ≡ (finish s >>= λ n. accepted (held-in b s))
-  unfolding called held-in held-after _>>=_
-  called-finish c e = rw (asks-none (c .op) (c .style) (c .text) e, finish-as (shows-in b k l) (c .style) (c .text)) (go (finish s))
-    where
-      go : (r : Result Nodes) → held-after (record { bytes = shown s ++ drop (length (shown s)) b; at = length (shown s); top = top-of s; answer = r >>= λ n. accepted (length (shown s)) }) (r >>= λ n. accepted (length (shown s)))
-          ≡ (r >>= λ n. accepted (held-in b s))
-      go (refused n p) = refl
-      go (accepted n) = refl
+  unfolding called held-in
+  called-finish c e =
+      rw (asks-none (c .op) (c .style) (c .text) e, finish-as (shows-in b k l) (c .style) (c .text)) (finish-held (finish s) (held-in b s))
 
 -- ---- a run
 
@@ -88,7 +88,8 @@ calls-ran b [] s k l h e = record { state = s; by-steps = refl; held-is = cc; fi
 calls-ran b (c ∷ cs) s k l h e = let (h₁, e₁, e₂) = bind-inv _ _ _ e in go (λ t k m. calls-ran b cs t k m h) (asked (c .op) (c .style) (c .text)) refl h₁ e₁ e₂
   where
     go : ((t : Open) → Fits t → length (shown t) ≤ length b → calls cs (held-in b t) ≡ accepted h → Ran b cs t h)
-        → (y : Option Step) → asked (c .op) (c .style) (c .text) ≡ y → (h₁ : Held) → called c (held-in b s) ≡ accepted h₁ → calls cs h₁ ≡ accepted h → Ran b (c ∷ cs) s h
+        → (y : Option Step) → asked (c .op) (c .style) (c .text) ≡ y → (h₁ : Held) → called c (held-in b s) ≡ accepted h₁ → calls cs h₁ ≡ accepted h
+        → Ran b (c ∷ cs) s h
     go again none f h₁ e₁ e₂ =
         let (n, _, q) = bind-inv (finish s) _ h₁ (sym (called-finish b s k l c f) ∙ e₁) in
         let q′ : h₁ ≡ held-in b s = cc in

@@ -1,5 +1,5 @@
 -- A step that is taken opens no block inside 32 others.
-use Rattle.rules.proofs.Basics.{_≡_, true, not, ℕ, suc, _≤_, _<_, arith, leb, leb-false, not-true}
+use Rattle.rules.proofs.Basics.{ℕ, suc, _≤_, _<_, arith, leb-false, not-true}
 use Rattle.rules.specs.Limits.{most-blocks}
 use Rattle.rules.specs.Good.{AllHold}
 use Rattle.scripts.specs.Script.{Join, Nodes, Header, Entries, Around, Open, depth}
@@ -12,7 +12,8 @@ below : (d : ℕ) → AllHold (depth-checks d) → d < most-blocks
 unfolding depth-checks
 below d h = leb-false most-blocks d (not-true _ (h .0))
 
-join-blocks : {s : Open} {a : Around} {n : Nodes} {j : Join} {h : Header} {es : Entries} → InJoin s a n j h es → blocks s ≤ most-blocks → suc (depth a) ≤ most-blocks
+join-blocks : {s : Open} {a : Around} {n : Nodes} {j : Join} {h : Header} {es : Entries} → InJoin s a n j h es → blocks s ≤ most-blocks
+    → suc (depth a) ≤ most-blocks
 unfolding blocks depth
 join-blocks none-yet l = l
 join-blocks in-entry l = l

@@ -1,8 +1,8 @@
 -- A buffer and two numbers that show a state of a script, and what holds of the state so that they can.
-use Rattle.rules.proofs.Basics.{_≡_, refl, sym, ap, _∙_, List, [], _++_, ℕ, _≤_, arith, length, length-append, take, drop, take-append-drop}
+use Rattle.rules.proofs.Basics.{_≡_, refl, List, _++_, ℕ, _≤_, arith, length, length-append, take, drop, take-append-drop}
 use lib.Seq.{take-append-seam}
 use Rattle.rules.specs.Limits.{most-bytes, most-blocks}
-use Rattle.rules.specs.Result.{Result, refused, accepted}
+use Rattle.rules.specs.Result.{accepted}
 use Rattle.rules.specs.Encode.{encode, frag-fields, encode-fields}
 use Rattle.scripts.specs.Script.{Open, start, tree-of, onto, depth}
 use Rattle.scripts.specs.Shown.{nodes-bytes, front-of, shown, top-of}
@@ -39,4 +39,5 @@ state-in b t = record { bytes = shown t ++ drop (length (shown t)) b; at = lengt
 
 pub shows-in : (b : List ℕ) {t : Open} → Fits t → length (shown t) ≤ length b → Shows (shown t ++ drop (length (shown t)) b) (length (shown t)) (top-of t) t
 shows-in b {t} k l =
-    record { held = take-append-seam (shown t) _; at-is = refl; in-room = omega (arith, length-append (shown t) (drop (length (shown t)) b)); top-is = refl; fits = k }
+    let m = length-append (shown t) (drop (length (shown t)) b) in
+    record { held = take-append-seam (shown t) _; at-is = refl; in-room = omega arith; top-is = refl; fits = k }

@@ -1,7 +1,7 @@
 -- THE CONTRACT DOES WHAT THE SCRIPT SAYS: a step on a buffer that shows a state is refused as the script's step is, or leaves the next state shown.
-use Rattle.rules.proofs.Basics.{_≡_, refl, sym, ap, _∙_, subst, List, [], _++_, append-nil, Option, none, some, _⊎_, inl, inr, _↔_, true, false, _&&_, _||_, ℕ, _+_, _≤_, arith, leb, ltb, eqb, le-leb, length, length-append, take, drop}
+use Rattle.rules.proofs.Basics.{_≡_, refl, _∙_, subst, List, [], _++_, append-nil, Option, none, some, _⊎_, inl, inr, _↔_, true, false, ℕ, _≤_, arith, ltb, le-leb, length, length-append, drop}
 use lib.Seq.{take-append-seam}
-use Rattle.rules.specs.Limits.{most-bytes, most-blocks}
+use Rattle.rules.specs.Limits.{most-bytes}
 use Rattle.rules.specs.Result.{Result, refused, accepted, _>>=_, _>>_, need, sound}
 use Rattle.rules.proofs.Chains.{no-path}
 use Rattle.scripts.specs.Script.{Nodes, root, in-block, in-join, Open, in-fragment, in-anchor, between, begun}
@@ -13,11 +13,11 @@ use Rattle.moves.specs.declared.Plan.{Plan}
 use Rattle.moves.specs.declared.Op.{Op}
 use Rattle.moves.specs.declared.Op.the-variants as op
 use Rattle.moves.specs.Plans.{plan, puts, shuts, first-node, piece-bytes, piece-checks, plan-checks, opened-header, opened-top, sane}
-use Rattle.moves.specs.Stepped.{Written, State, fitting, planned, answered, left, stepped}
+use Rattle.moves.specs.Stepped.{Written, fitting, planned, answered, left, stepped}
 use Rattle.moves.specs.Asked.{asked}
 use Rattle.moves.specs.ReadOff.{is-some}
 use Rattle.moves.proofs.Codes.{code-of, kind-is, code-is, stands, owns}
-use Rattle.moves.proofs.Carried.{shows-of, Carries, passes, carries-none}
+use Rattle.moves.proofs.Carried.{shows-of, Carries, passes, ends, carries-none}
 use Rattle.moves.proofs.Ways.{way-carried}
 use Rattle.moves.proofs.Allowed.{is-accepted, can, allowed-is}
 use Rattle.moves.proofs.Shallow.{shallow-after}
@@ -53,7 +53,10 @@ plan-taken {s = s} r e k = rw (k .closing r, take-append-seam (shown s) r, k .ch
 -- ---- a step from a state
 
 -- finishing is refused by 11 alone
-pub finish-is : (s : Open) → (finish s ≡ refused 11 (length (shown s))) ⊎ ((n : Nodes) × (finish s ≡ accepted n))
+abbrev pub Finishing : Open → Type 0
+Finishing s = (finish s ≡ refused 11 (length (shown s))) ⊎ ((n : Nodes) × (finish s ≡ accepted n))
+
+pub finish-is : (s : Open) → Finishing s
 unfolding finish finished-in
 finish-is (in-fragment root n) = inr (n, refl)
 finish-is (in-fragment (in-block a m k es) n) = inl refl
@@ -84,23 +87,23 @@ module _ (s : Open) (k : Fits s) (r : List ℕ) where
       allowed-as : {y : Option Open} → allows x s ≡ y → plan-here o .allowed ≡ is-some y
       allowed-as f = allowed-here o st v ∙ rw (e, f)
 
-      go : (y : Option Open) → allows x s ≡ y → planned (plan-here o) st v (shown s ++ r) (length (shown s)) (top-of s) ≡ shown-in (step (length (shown s ++ r)) x s)
+      go : (y : Option Open) → allows x s ≡ y
+          → planned (plan-here o) st v (shown s ++ r) (length (shown s)) (top-of s) ≡ shown-in (step (length (shown s ++ r)) x s)
       go none f = plan-refused _ st v _ _ _ (allowed-as f) ∙ rw f
       go (some t) f =
           plan-taken r (allowed-as f) (way-carried o st v _ e (goes x s t f) (k .shallow))
-          ∙ rw (f, shown-then (sound (checks x (depth-of s)) (length (shown s))), shown-then (need (leb (length (shown t)) most-bytes) 1 (length (shown s))), shown-then)
+          ∙ rw f (simp shown-then)
 
   -- finishing closes nothing, puts nothing and asks as little as a space
   finish-carried : (st : Style) (v : List ℕ) → Carries (plan-here op.Finish) st v put-space s s
   unfolding plan puts shuts checks plan-checks piece-checks piece-bytes opened-header opened-top
-  finish-carried st v = carries-none (passes [] 6) refl (record { bytes-end = simp append-nil; top-ends = refl })
+  finish-carried st v = carries-none (passes [] 6) refl (ends (simp append-nil) refl)
 
   finish-core : (st : Style) (v : List ℕ) → answered op.Finish st v (shown s ++ r) (length (shown s)) (top-of s) ≡ (finish s >>= λ n. accepted (shows-of s))
   unfolding answered need sound checks fitting _>>_ _>>=_ can is-accepted asked
   finish-core st v = rw (code-is s r, is-sane) (go (finish-is s))
     where
-      go : (finish s ≡ refused 11 (length (shown s))) ⊎ ((n : Nodes) × (finish s ≡ accepted n))
-          → planned (plan-here op.Finish) st v (shown s ++ r) (length (shown s)) (top-of s) ≡ (finish s >>= λ n. accepted (shows-of s))
+      go : Finishing s → planned (plan-here op.Finish) st v (shown s ++ r) (length (shown s)) (top-of s) ≡ (finish s >>= λ n. accepted (shows-of s))
       go (inl f) = plan-refused _ st v _ _ _ (allowed-here op.Finish st v ∙ rw f) ∙ rw f
       go (inr (n, f)) =
           let room : length (shown s) ≤ length (shown s ++ r) = omega (arith, length-append (shown s) r) in
@@ -120,7 +123,9 @@ module _ {b : List ℕ} {at top : ℕ} {s : Open} (k : Shows b at top s) where
       subst (λ w. answered o st v w at top ≡ shown-in (step (length w) x s)) (shows-rest k) (rw (k .at-is, k .top-is) (core s (k .fits) _ o st v x e))
 
   finish-answers : (st : Style) (v : List ℕ) → answered op.Finish st v b at top ≡ (finish s >>= λ n. accepted (shows-of s))
-  finish-answers st v = subst (λ w. answered op.Finish st v w at top ≡ (finish s >>= λ n. accepted (shows-of s))) (shows-rest k) (rw (k .at-is, k .top-is) (finish-core s (k .fits) _ st v))
+  finish-answers st v =
+      subst (λ w. answered op.Finish st v w at top ≡ (finish s >>= λ n. accepted (shows-of s))) (shows-rest k)
+      (rw (k .at-is, k .top-is) (finish-core s (k .fits) _ st v))
 
   -- refused exactly where the script's step is, with its number and place
   pub refused-as : (o : Op) (st : Style) (v : List ℕ) (x : Step) → asked o st v ≡ some x
@@ -138,7 +143,7 @@ module _ {b : List ℕ} {at top : ℕ} {s : Open} (k : Shows b at top s) where
   unfolding stepped left _>>=_
   finish-as st v = rw (finish-answers st v) (go (finish-is s))
     where
-      go : (finish s ≡ refused 11 (length (shown s))) ⊎ ((n : Nodes) × (finish s ≡ accepted n))
+      go : Finishing s
           → left b at top (finish s >>= λ n. accepted (shows-of s)) ≡ record { bytes = b; at = at; top = top; answer = finish s >>= λ n. accepted at }
       go (inl f) = rw f
       go (inr (n, f)) = rw (f, ← k .at-is, ← k .top-is, shows-rest k)

@@ -1,5 +1,5 @@
 -- Styles: a record's fields are formed, and formed fields come back from their record.
-use Rattle.rules.proofs.Basics.{_≡_, refl, sym, ap, _∙_, subst, List, [], _∷_, Option, none, some, Bool, true, false, _&&_, and-eq-true-iff, ℕ, zero, suc, _+_, _≤_, _<_, arith, leb, ltb, eqb, length, getD, leb-true, ltb-true, lt-ltb, eqb-true, eqb-false, ne-eqb}
+use Rattle.rules.proofs.Basics.{_≡_, refl, sym, ap, _∙_, List, [], _∷_, Option, none, some, Bool, true, false, and-eq-true-iff, ℕ, zero, suc, _+_, _≤_, _<_, arith, leb, ltb, eqb, length, getD, leb-true, ltb-true, lt-ltb, eqb-true, eqb-false, ne-eqb}
 use Rattle.rules.specs.Limits.{first-style, last-style}
 use Rattle.rules.specs.Bytes.{if_then_else_, within}
 use Rattle.rules.specs.Walk.{Fields, end, bytes, inside, in-styles, allowed, right-length, holds}
@@ -103,7 +103,8 @@ abbrev Valued : ℕ → Option (List ℕ) → Type 0
 Valued t none = Unit {0}
 Valued t (some v) = right-length t (length v) ≡ true
 
-valued-if : (f : Bool) (t : ℕ) (v : List ℕ) (o : Option (List ℕ)) → (f ≡ true → right-length t (length v) ≡ true) → Valued t o → Valued t (if f then some v else o)
+valued-if : (f : Bool) (t : ℕ) (v : List ℕ) (o : Option (List ℕ)) → (f ≡ true → right-length t (length v) ≡ true) → Valued t o
+    → Valued t (if f then some v else o)
 valued-if true t v o k l = k refl
 valued-if false t v o k l = l
 
