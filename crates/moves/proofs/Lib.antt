@@ -10,6 +10,7 @@ pub mod Simulation
 pub mod Runs
 pub mod Styles
 pub mod CallsOf
+pub mod InBytes
 pub mod Promises
 pub mod Open
 pub mod Examples

@@ -26,11 +26,12 @@ use Rattle.moves.specs.declared.Op.{Op}
 use Rattle.moves.specs.declared.Op.the-variants as op
 use Rattle.moves.specs.Stepped.{Written, State, answered, left, stepped, said, Says}
 use Rattle.moves.specs.Asked.{Call, script, Held, fresh, calls}
-use Rattle.moves.specs.ReadOff.{AllSized, calls-of}
+use Rattle.moves.specs.ReadOff.{AllSized, AllInBytes, calls-of}
 use Rattle.moves.proofs.Codes.{blocks}
 use Rattle.moves.proofs.Shows.{Fits, start-fits, shows-in}
 use Rattle.moves.proofs.Simulation.{finish-as}
 use Rattle.moves.proofs.Runs.{held-in, fresh-held, drop-later, calls-ran}
+use Rattle.moves.proofs.InBytes.{frag-called}
 use Rattle.moves.proofs.CallsOf.{script-formed, script-back, calls-back}
 
 -- ---- A FINISHED WRITER'S BYTES ARE AN ACCEPTED FILE, as the tree that its calls asked for
@@ -77,12 +78,14 @@ finished-file b cs h st v n z e =
 pub record WrittenAgain (s : List ℕ) (t : Frag ℕ) (b : List ℕ) : Type 0 where
   pub asked-for : List Call
   pub script-is : script asked-for ≡ steps-of t []
+  -- calls that the code can be given
   pub styles-sized : AllSized asked-for
+  pub of-bytes : AllInBytes asked-for
   pub leaves : calls asked-for (fresh b) ≡ accepted (record { bytes = s ++ drop (length s) b; at = length s; top = 0 })
   pub finishes : (st : Style) (v : List ℕ) → stepped op.Finish st v (s ++ drop (length s) b) (length s) 0 .answer ≡ accepted (length s)
 
 pub read-off-written : (s : List ℕ) (t : Frag ℕ) (b : List ℕ) → Bytes s → tree s ≡ accepted t → length s ≤ length b → WrittenAgain s t b
-unfolding held-in top-of front-of blocks depth _>>=_
+unfolding held-in top-of front-of blocks depth _>>=_ encode calls-of
 read-off-written s t b bs e l =
     let (n, g, f, _, is) = steps-back s t (length b) bs e l in
     let fs = read-off-formed s t bs e in
@@ -93,6 +96,7 @@ read-off-written s t b bs e l =
       asked-for = calls-of (steps-of t []);
       script-is = q;
       styles-sized = z;
+      of-bytes = frag-called t [] (subst⁻¹ Bytes (r .encodes) bs) tt;
       leaves = rw (fresh-held b, ← is) (calls-back b (steps-of t []) start (in-fragment root n) fs start-fits (no-room b) g);
       finishes = λ st v. rw (← is) (ap (λ (w : State). w .answer) (finish-as (shows-in b k (rw is l)) st v) ∙ rw f);
     }

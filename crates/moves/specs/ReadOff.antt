@@ -3,10 +3,11 @@ use mathlib.Core.Path.{_≡_}
 use mathlib.Core.List.{List, [], _∷_, map}
 use mathlib.Core.Option.{Option, none, some}
 use mathlib.Core.Bool.{Bool, true, false}
-use Prim.Native.Nat.{ℕ}
+use Prim.Native.Nat.{ℕ, _<_}
 use lib.ListN.{length, getD}
 use Rattle.rules.specs.Walk.{Fields}
 use Rattle.rules.specs.Tree.{Run, bytes-of, indented, flexible}
+use Rattle.rules.specs.Good.{Bytes}
 use Rattle.scripts.specs.Script.{spaced, commas}
 use Rattle.scripts.specs.Steps.{Step, put-text, put-space, put-force, put-conditional, open-anchor, close-anchor, open-block, close-block, open-fragment, close-fragment, begin-join, next-entry, end-space-join, end-comma-join}
 use Rattle.moves.specs.declared.Style.{Style}
@@ -24,6 +25,18 @@ pub record Sized (st : Style) : Type 0 where
 abbrev pub AllSized : List Call → Type 0
 AllSized [] = Unit {0}
 AllSized (c ∷ cs) = Sized (c .style) × AllSized cs
+
+-- and their bytes are below 256
+pub record InBytes (c : Call) : Type 0 where
+  pub colour-bytes : Bytes (c .style .colour)
+  pub opacity-bytes : Bytes (c .style .opacity)
+  pub thickness-byte : c .style .thickness < 256
+  pub size-byte : c .style .size < 256
+  pub text-bytes : Bytes (c .text)
+
+abbrev pub AllInBytes : List Call → Type 0
+AllInBytes [] = Unit {0}
+AllInBytes (c ∷ cs) = InBytes c × AllInBytes cs
 
 unfoldable pub is-some : {A : Type 0} → Option A → Bool
 is-some none = false
