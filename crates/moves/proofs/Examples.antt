@@ -16,10 +16,10 @@ p1 =
     with-text op.BeginCommaJoin (ascii "f(") ∷ with-text op.NextEntry [] ∷ with-text op.Text (ascii "a") ∷ with-text op.NextEntry []
     ∷ with-text op.Text (ascii "b") ∷ with-text op.EndCommaJoin (ascii ")") ∷ with-text op.Finish [] ∷ []
 
--- in 52 bytes and one more, which stays
-pub p1-written : calls p1 (fresh (replicate 53 255))
+-- in 52 bytes
+pub p1-written : calls p1 (fresh (replicate 52 255))
     ≡ accepted (record {
-      bytes = unhex "0100051100026628 040022 080011 01000411000161 0100041100012C 050000 08000B 01000411000162 0700012C 01000411000129 FF";
+      bytes = unhex "0100051100026628 040022 080011 01000411000161 0100041100012C 050000 08000B 01000411000162 0700012C 01000411000129";
       at = 52;
       top = 0;
     })
