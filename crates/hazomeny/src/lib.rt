@@ -91,7 +91,13 @@ pub extern "C" fn hazomeny_html_document(file: &[u8], page: &mut [u8]) -> u64
 // One step of a writer over `file`, by numbers: `state` has how far the file is written, and the place of the innermost open field and 1, or 0. A
 // number that is no step's is refused by 11. A refusal changes no byte and no number.
 #[no_mangle]
-pub extern "C" fn hazomeny_write(file: &mut [u8], state: &mut [u32; 2], step: u8, style: &[u8; 17], text: &[u8]) -> u64
+pub extern "C" fn hazomeny_write(
+    file: &mut [u8],
+    state: &mut [u32; 2],
+    step: u8,
+    style: &[u8; 17],
+    text: &[u8],
+) -> u64
     ensures { λ r. ⌜ Leaves r (now (file .exit)) (now (state .exit)) (write-in-c step (now (style .entry)) (now (text .entry)) (now (file .entry)) (now (state .entry))) ⌝ }
 {
     let at = from_state(state[0]);

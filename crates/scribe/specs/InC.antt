@@ -4,7 +4,7 @@ use mathlib.Core.List.{List, [], _∷_}
 use mathlib.Core.Bool.{Bool, true, false, not}
 use Prim.Native.Nat.{ℕ}
 use lib.Dec.{leb, eqb}
-use lib.ListN.{getD}
+use lib.ListN.{getD, set}
 use Rattle.rules.specs.Bytes.{if_then_else_}
 use Rattle.rules.specs.Result.{refused}
 use Rattle.rules.specs.Answers.{coded}
@@ -53,12 +53,12 @@ pub record Left : Type 0 where
   pub bytes : List ℕ
   pub numbers : List ℕ
 
-unfoldable pub left-by : State → Left
-left-by s = record { answer = coded (s .answer); bytes = s .bytes; numbers = s .at ∷ s .top ∷ [] }
+unfoldable pub left-by : State → (numbers : List ℕ) → Left
+left-by s ns = record { answer = coded (s .answer); bytes = s .bytes; numbers = set (set ns 0 (s .at)) 1 (s .top) }
 
 -- a number that is no step's is refused by 11
 unfoldable pub left-in-c : (is-step : Bool) → (step : ℕ) → (style text b numbers : List ℕ) → Left
-left-in-c true n style text b ns = left-by (stepped (numbered n) (style-in style) text b (getD ns 0 0) (getD ns 1 0))
+left-in-c true n style text b ns = left-by (stepped (numbered n) (style-in style) text b (getD ns 0 0) (getD ns 1 0)) ns
 left-in-c false n style text b ns = record { answer = coded (refused 11 (getD ns 0 0)); bytes = b; numbers = ns }
 
 unfoldable pub write-in-c : (step : ℕ) → (style text b numbers : List ℕ) → Left

@@ -1,0 +1,25 @@
+-- The writer's C name: a number that is no step's, and a step.
+use Rattle.rules.proofs.Basics.{_≡_, refl, sym, ap, ap₂, _∙_, List, [], _∷_, ℕ, _+_, _*_, _≤_, _<_, arith, Bool, true, false, leb, le-leb, lt-leb, length, getD, set}
+use Rattle.rules.specs.Result.{refused}
+use Rattle.rules.specs.Answers.{coded}
+use Rattle.moves.specs.declared.Op.{Op}
+use Rattle.moves.specs.declared.Style.{Style}
+use Rattle.moves.specs.declared.Moved.{Moved}
+use Rattle.moves.specs.Stepped.{State, said, Says, stepped}
+use Rattle.scribe.specs.InC.{numbered, style-in, last-step, Left, left-by, left-in-c, write-in-c, Leaves}
+
+pub unknown-step : (step : ℕ) (style text b ns : List ℕ) {at : ℕ} → at ≡ getD ns 0 0 → last-step < step → Leaves (at * 256 + 11) b ns (write-in-c step style text b ns)
+unfolding write-in-c left-in-c coded
+unknown-step step style text b ns e h = rw (lt-leb step last-step h) (record { answer-is = rw e; bytes-are = refl; numbers-are = refl })
+
+pub known-step : (step : ℕ) (style text b ns : List ℕ) {b′ : List ℕ} {at top r : ℕ} {o : Op} {st : Style} {m : Moved} → at ≡ getD ns 0 0 → top ≡ getD ns 1 0 → step ≤ last-step
+    → o ≡ numbered step → st ≡ style-in style → Says m b′ (stepped o st text b at top) → r ≡ coded (said (m .answer))
+    → Leaves r b′ (set (set ns 0 (m .at)) 1 (m .top)) (write-in-c step style text b ns)
+unfolding write-in-c left-in-c left-by
+known-step step style text b ns {b′} {at} {top} {r} {o} {st} {m} e f h p q s c =
+    let g : Says m b′ (stepped (numbered step) (style-in style) text b (getD ns 0 0) (getD ns 1 0)) = rw (p, q, e, f) at s in
+    rw (le-leb step last-step h) (record {
+      answer-is = c ∙ ap coded (g .answer-is);
+      bytes-are = g .bytes-are;
+      numbers-are = ap₂ (λ (x y : ℕ). set (set ns 0 x) 1 y) (g .at-is) (g .top-is);
+    })
