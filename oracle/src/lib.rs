@@ -31,6 +31,7 @@ pub mod tags;
 pub mod tree;
 pub mod wire;
 pub mod words;
+pub mod writer;
 pub mod wrong;
 
 /// The original, as `build.rs` brought it in.
