@@ -29,11 +29,17 @@
 #![deny(missing_docs)]
 #![deny(unsafe_op_in_unsafe_fn)]
 
+mod c;
 mod entries;
 mod limits;
 mod refusal;
+mod step;
+mod style;
+mod writer;
 
 pub use entries::{append_html_body, append_html_document, append_plain_page};
 pub use entries::{check_file, html_body, html_document, layout_file, plain_page};
 pub use limits::{HTML_FRAME, HTML_PER_BYTE, MOST_BYTES, MOST_COLUMNS, PLAIN_PER_BYTE};
 pub use refusal::Refusal;
+pub use style::{Style, Text};
+pub use writer::{Buffer, Entries, Writer};
