@@ -13,6 +13,8 @@ use crate::numbers::{self, Misprint};
 use crate::options::Options;
 use crate::random::Random;
 use crate::record;
+use crate::scribe::{Scribe, Second};
+use crate::scripts;
 use crate::selftest;
 use crate::subject::{Child, Oneself, Subject};
 use crate::tags::{FULL_OPACITY, LEAST_OPACITY};
@@ -54,6 +56,12 @@ oracle COMMAND: the Rust original's answers for fragment files
                                their texts, and the same tags, at two widths
                                and not laid out; with 7s too a plain page has
                                at most 67 times the bytes of its file
+  scripts --subject WHAT [--seed S] [--files N | --seconds N]
+                               steps of a writer, most scripts of them wrong
+                               somewhere, are answered as the judge's own
+                               writers answer; the files are the trees asked
+                               for, those of the original's joins too; WHAT is
+                               `self` or `library`
   numbers --subject WHAT [--every N] [--from K]
                                compares every opacity, size and weight in HTML
                                bodies; of the opacities from 1/1024 to 1 only
@@ -89,6 +97,10 @@ pub fn run(words: &[String]) -> Result<ExitCode, Mistake> {
         "words" => {
             let allowed = ["subject", "seed", "files", "seconds"];
             run_words(&Options::new(rest, &allowed)?)
+        }
+        "scripts" => {
+            let allowed = ["subject", "seed", "files", "seconds"];
+            run_scripts(&Options::new(rest, &allowed)?)
         }
         "numbers" => run_numbers(&Options::new(rest, &["subject", "every", "from"])?),
         "selftest" => run_selftest(&Options::new(rest, &["seed", "files"])?),
@@ -235,6 +247,10 @@ fn extent(options: &Options) -> Result<Extent, Mistake> {
     }
 }
 
+#[cfg(not(feature = "linked"))]
+const WITHOUT_LIBRARY: &str =
+    "this judge was built without the library; tests/linked/compare builds one with it";
+
 #[cfg(feature = "linked")]
 fn library() -> Result<Box<dyn Subject>, Mistake> {
     Ok(Box::new(crate::library::Library::new()))
@@ -242,7 +258,26 @@ fn library() -> Result<Box<dyn Subject>, Mistake> {
 
 #[cfg(not(feature = "linked"))]
 fn library() -> Result<Box<dyn Subject>, Mistake> {
-    Err("this judge was built without the library; tests/linked/compare builds one with it".into())
+    Err(WITHOUT_LIBRARY.into())
+}
+
+#[cfg(feature = "linked")]
+fn writing_library() -> Result<Box<dyn Scribe>, Mistake> {
+    Ok(Box::new(crate::library::Library::new()))
+}
+
+#[cfg(not(feature = "linked"))]
+fn writing_library() -> Result<Box<dyn Scribe>, Mistake> {
+    Err(WITHOUT_LIBRARY.into())
+}
+
+/// The writer asked for.
+fn scribe(options: &Options) -> Result<Box<dyn Scribe>, Mistake> {
+    match options.text("subject") {
+        Some("self") => Ok(Box::new(Second::new())),
+        Some("library") => writing_library(),
+        _ => Err("a --subject is needed, `self` or `library`".into()),
+    }
 }
 
 /// The subject asked for.
@@ -324,6 +359,26 @@ fn run_words(options: &Options) -> Result<ExitCode, Mistake> {
         let tally = words::run(subject, seed, extent)?;
         Ok((tally.files, format!("the same words: {}", tally.words())))
     })
+}
+
+fn run_scripts(options: &Options) -> Result<ExitCode, Mistake> {
+    let [] = options.words()?;
+    let seed = seed(options)?;
+    let extent = extent(options)?;
+    let mut scribe = scribe(options)?;
+    println!("seed {seed}");
+    let start = Instant::now();
+    match scripts::run(&mut *scribe, seed, extent) {
+        Ok(tally) => {
+            let per_minute = tally.scripts as f64 * 60.0 / start.elapsed().as_secs_f64();
+            println!(
+                "no disagreement: {}; {per_minute:.0} scripts per minute",
+                tally.words()
+            );
+            Ok(ExitCode::SUCCESS)
+        }
+        Err(stop) => stopped(stop, scripts::Unlike::words),
+    }
 }
 
 /// Runs something on a subject, and says what came of it: of how many files, in words.

@@ -17,6 +17,8 @@ pub mod known;
 #[cfg(feature = "linked")]
 pub mod library;
 #[cfg(feature = "linked")]
+pub mod lister;
+#[cfg(feature = "linked")]
 pub mod lists;
 pub mod masks;
 pub mod numbers;
@@ -24,6 +26,8 @@ pub mod options;
 pub mod properties;
 pub mod random;
 pub mod record;
+pub mod scribe;
+pub mod scripts;
 pub mod selftest;
 pub mod shrink;
 pub mod subject;

@@ -81,6 +81,23 @@ pub fn pages(file: &[u8]) -> [Vec<u8>; 3] {
     })
 }
 
+/// A tree after its layout, and how that is shown.
+pub struct Printed {
+    pub laid_out: Vec<u8>,
+    pub plain: Vec<u8>,
+    pub body: Vec<u8>,
+}
+
+/// What the original makes of a tree at `width`.
+pub fn printed(tree: Fragment, width: u16) -> Printed {
+    let tree = tree.layout_with_max_line_width(usize::from(width));
+    Printed {
+        plain: tree.to_string().into_bytes(),
+        body: tree.render_to_html().body.into_bytes(),
+        laid_out: encode(&tree.into_fragment()),
+    }
+}
+
 /// The file, decoded and encoded again.
 pub fn there_and_back(file: &[u8]) -> Vec<u8> {
     with_tree(file, 0, |tree, _| encode(&tree))
@@ -101,10 +118,10 @@ fn with_tree<R>(file: &[u8], width: u16, work: fn(Fragment, usize) -> R) -> R {
 }
 
 /// The fields of an accepted value, one after the other.
-struct Fields(&'static [u8]);
+struct Fields<'a>(&'a [u8]);
 
-impl Iterator for Fields {
-    type Item = (u8, &'static [u8]);
+impl<'a> Iterator for Fields<'a> {
+    type Item = (u8, &'a [u8]);
 
     fn next(&mut self) -> Option<Self::Item> {
         let (&[tag, high, low], rest) = self.0.split_first_chunk::<HEADER>()?;
@@ -163,7 +180,8 @@ fn utf8(value: &'static [u8]) -> &'static str {
     std::str::from_utf8(value).expect("an accepted text is UTF-8")
 }
 
-fn styles(value: &'static [u8]) -> Styles {
+/// The styles of an accepted 16.
+pub fn styles(value: &[u8]) -> Styles {
     let mut styles = Styles::default();
     for (tag, value) in Fields(value) {
         match (tag, value) {
@@ -182,7 +200,8 @@ fn styles(value: &'static [u8]) -> Styles {
     styles
 }
 
-fn encode(tree: &Fragment) -> Vec<u8> {
+/// The file of a tree, which fits one.
+pub fn encode(tree: &Fragment) -> Vec<u8> {
     let mut out = Vec::new();
     put_nodes(&mut out, tree);
     out
