@@ -208,7 +208,7 @@ class Prototypes(unittest.TestCase):
             (declared_in_c, HEADER, in_c, "size_t length, uint8_t *page, size_t room", "size_t room, uint8_t *page, size_t length"),
             (declared_in_c, HEADER, in_c, "uint64_t hazomeny_check", "uint32_t hazomeny_check"),
             (declared_in_c, HEADER, in_c, "size_t width);", "uint32_t width);"),
-            (declared_in_c, HEADER, in_c, "uint32_t state[2]", "uint32_t state[3]"),
+            (declared_in_c, HEADER, in_c, "uint32_t state[2], ", "uint32_t state[3], "),
             (declared_in_c, HEADER, in_c, "const uint8_t style[17]", "const uint8_t *style"),
             (declared_in_rust, RUST, in_rust, "length: usize, width: usize", "width: usize, length: usize"),
             (declared_in_rust, RUST, in_rust, "width: usize) -> u64;", "width: usize) -> u32;"),
