@@ -51,9 +51,9 @@ pub use nodes::Entries;
 ///
 /// What has an inside can be written as a whole: [`join_space`](Self::join_space), [`join_comma_sep`](Self::join_comma_sep),
 /// [`anchor_definition`](Self::anchor_definition), [`anchor_use`](Self::anchor_use), [`indented_block`](Self::indented_block),
-/// [`inline_or_indented_block`](Self::inline_or_indented_block) and [`fragment`](Self::fragment) take a closure that writes the inside. **All of it is written, or
-/// nothing**: if any step inside is refused, the writer stands again where it stood before. The closure can neither leave what it is
-/// the inside of nor leave anything open in it; both are refused by 11.
+/// [`inline_or_indented_block`](Self::inline_or_indented_block) and [`fragment`](Self::fragment) take a closure that writes the inside.
+/// **All of it is written, or nothing**: if the closure answers a refusal, the writer stands again where it stood before. A closure can
+/// neither leave what it is the inside of nor leave anything open in it; both are refused by 11.
 ///
 /// The same can be done by steps that open and close, begin and end, which suits a program that walks a tree of its own.
 ///

@@ -7,6 +7,7 @@ use hazomeny::*;
 
 type Grown = Writer<Vec<u8>>;
 type Said = Result<usize, Refusal>;
+type Node = fn(&mut Grown) -> Said;
 
 fn refused<T>(number: u8, place: usize) -> Result<T, Refusal> {
     Err(Refusal { number, place })
@@ -99,7 +100,7 @@ fn a_join_in_a_join() {
 }
 
 /// A node that is refused, with the refusal, where 7 bytes stand before it.
-fn refused_nodes() -> Vec<(Refusal, fn(&mut Grown) -> Said)> {
+fn refused_nodes() -> Vec<(Refusal, Node)> {
     let refusal = |number, place| Refusal { number, place };
     vec![
         (refusal(9, 7), |w| w.anchor_use("\"", |w| w.text("a"))),
@@ -173,7 +174,7 @@ fn a_node_that_does_not_fit_is_not_written_at_all() {
 }
 
 /// Nodes whose closure leaves what it is the inside of, or leaves something open in it.
-fn unbalanced() -> Vec<fn(&mut Grown) -> Said> {
+fn unbalanced() -> Vec<Node> {
     vec![
         |w| w.anchor_use("a", |w| w.close_anchor()),
         |w| w.indented_block(|w| w.close_block()),

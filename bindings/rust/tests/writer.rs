@@ -11,6 +11,7 @@ const LENT: u8 = 0xa5;
 type Grown = Writer<Vec<u8>>;
 type Said = Result<usize, Refusal>;
 type Step = fn(&mut Grown) -> Said;
+type LentStep = fn(&mut Writer<&mut [u8]>) -> Said;
 
 fn refused<T>(number: u8, place: usize) -> Result<T, Refusal> {
     Err(Refusal { number, place })
@@ -501,7 +502,7 @@ fn one_before_10() {
 }
 
 /// Every step of the script but its closings writes something.
-const SCRIPT: [fn(&mut Writer<&mut [u8]>) -> Said; 22] = [
+const SCRIPT: [LentStep; 22] = [
     |w| w.text("a"),
     |w| {
         w.text(
