@@ -62,6 +62,9 @@ oracle COMMAND: the Rust original's answers for fragment files
                                writers answer; the files are the trees asked
                                for, those of the original's joins too; WHAT is
                                `self` or `library`
+  lister [--width W]           shows a listing that the original's functions
+                               build, by the original and, written in the
+                               library's steps, by the library
   numbers --subject WHAT [--every N] [--from K]
                                compares every opacity, size and weight in HTML
                                bodies; of the opacities from 1/1024 to 1 only
@@ -102,6 +105,7 @@ pub fn run(words: &[String]) -> Result<ExitCode, Mistake> {
             let allowed = ["subject", "seed", "files", "seconds"];
             run_scripts(&Options::new(rest, &allowed)?)
         }
+        "lister" => run_lister(&Options::new(rest, &["width"])?),
         "numbers" => run_numbers(&Options::new(rest, &["subject", "every", "from"])?),
         "selftest" => run_selftest(&Options::new(rest, &["seed", "files"])?),
         "help" | "--help" => print(USAGE.as_bytes()),
@@ -379,6 +383,28 @@ fn run_scripts(options: &Options) -> Result<ExitCode, Mistake> {
         }
         Err(stop) => stopped(stop, scripts::Unlike::words),
     }
+}
+
+#[cfg(feature = "linked")]
+fn run_lister(options: &Options) -> Result<ExitCode, Mistake> {
+    let [] = options.words()?;
+    let width = options.number("width")?.unwrap_or(24);
+    match crate::switched::pages(width) {
+        Ok(pages) => {
+            println!("the original:\n{}\n", pages.original);
+            println!("the library:\n{}", pages.library);
+            Ok(ExitCode::from(u8::from(pages.original != pages.library)))
+        }
+        Err(refusal) => {
+            println!("{refusal}");
+            Ok(ExitCode::FAILURE)
+        }
+    }
+}
+
+#[cfg(not(feature = "linked"))]
+fn run_lister(_: &Options) -> Result<ExitCode, Mistake> {
+    Err(WITHOUT_LIBRARY.into())
 }
 
 /// Runs something on a subject, and says what came of it: of how many files, in words.

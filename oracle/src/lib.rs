@@ -31,6 +31,8 @@ pub mod scripts;
 pub mod selftest;
 pub mod shrink;
 pub mod subject;
+#[cfg(feature = "linked")]
+pub mod switched;
 pub mod tags;
 pub mod tree;
 pub mod wire;

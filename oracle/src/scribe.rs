@@ -13,6 +13,9 @@ pub type Record = [u8; 17];
 /// No style at all.
 pub const UNSTYLED: Record = [0; 17];
 
+/// Of a longer text only the front is shown.
+const MOST_SHOWN: usize = 100;
+
 /// A step with what it brings.
 #[derive(Clone, Debug, PartialEq, Eq)]
 pub struct Call {
@@ -40,7 +43,11 @@ impl Call {
             Some(step) => format!("{step:?}"),
             None => "none".into(),
         };
-        let (step, style, text) = (self.step, hex(&self.style), hex(&self.text));
+        let (step, style) = (self.step, hex(&self.style));
+        let text = match self.text.get(..MOST_SHOWN) {
+            Some(front) => format!("of {} bytes, {}..", self.text.len(), hex(front)),
+            None => hex(&self.text),
+        };
         format!("step {step} ({name}), style {style}, text {text}")
     }
 }

@@ -131,11 +131,11 @@ impl<'a> Plan<'a> {
         }
     }
 
-    /// Puts a text after which little is left of the longest file.
+    /// Puts a text after which little is left of the longest file, or less than nothing.
     fn go_far(&mut self) {
-        let left = self.random.below(120);
         let at = self.ends.last().copied().unwrap_or(0);
-        let length = LONGEST_FILE.saturating_sub(at + 2 * HEADER + left);
+        let limit = LONGEST_FILE + 20 - self.random.below(140);
+        let length = limit.saturating_sub(at + 2 * HEADER);
         self.push(Call::with(Step::Text, UNSTYLED, &vec![b'p'; length]));
     }
 

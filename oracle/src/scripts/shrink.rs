@@ -1,8 +1,10 @@
 //! Makes a failing script small: drops steps, then styles, texts and room.
 
 use super::Script;
-use crate::scribe::{made_right, Desk, UNSTYLED};
-use crate::tags::LONGEST_FILE;
+use crate::answers::LENT;
+use crate::scribe::{made_right, Call, Desk, UNSTYLED};
+use crate::tags::{HEADER, LONGEST_FILE};
+use crate::writer::Step;
 
 /// Says whether a script still fails.
 pub type Fails<'a> = dyn FnMut(&Script) -> bool + 'a;
@@ -29,12 +31,16 @@ pub fn smallest(script: &Script, fails: &mut Fails) -> Script {
 }
 
 /// Every cut makes this smaller, so they come to an end.
-fn size(script: &Script) -> [usize; 5] {
+fn size(script: &Script) -> [usize; 6] {
     let calls = &script.calls;
     let style = |byte: &&u8| **byte != 0;
     let text = |byte: &&u8| **byte != b'a';
     [
         calls.len(),
+        calls
+            .iter()
+            .filter(|call| given(call.step).is_some())
+            .count(),
         calls.iter().map(|call| call.text.len()).sum(),
         calls
             .iter()
@@ -48,11 +54,24 @@ fn size(script: &Script) -> [usize; 5] {
     ]
 }
 
+/// The step that begins a join with its header given, in place of one that begins it behind a node.
+fn given(step: u8) -> Option<u8> {
+    match Step::numbered(step)? {
+        Step::BeginSpaceBehind => Some(Step::BeginSpace as u8),
+        Step::BeginCommaBehind => Some(Step::BeginComma as u8),
+        _ => None,
+    }
+}
+
 #[derive(Clone, Copy)]
 enum Cut {
     /// Drops so many calls; the room stays, or is as much less as less is needed.
     Calls(usize, usize),
     CallsAndRoom(usize, usize),
+    /// Drops so many calls and makes up for them by a longer text, for a fault at the end of the longest file.
+    CallsForText(usize, usize),
+    /// Gives a join its header.
+    Given(usize),
     /// The text of a call without so many bytes of its end.
     Text(usize, usize),
     /// The same with as much less room.
@@ -69,7 +88,8 @@ fn cuts(script: &Script) -> Vec<Cut> {
     let mut run = count;
     while run > 0 {
         for at in (0..count).step_by(run) {
-            cuts.extend([Cut::Calls(at, run), Cut::CallsAndRoom(at, run)]);
+            let all = [Cut::Calls, Cut::CallsAndRoom, Cut::CallsForText];
+            cuts.extend(all.map(|cut| cut(at, run)));
         }
         run /= 2;
     }
@@ -78,7 +98,7 @@ fn cuts(script: &Script) -> Vec<Cut> {
         for less in [length, length / 2, 1] {
             cuts.extend([Cut::Text(at, less), Cut::TextAndRoom(at, less)]);
         }
-        cuts.extend([Cut::Style(at), Cut::Dull(at)]);
+        cuts.extend([Cut::Given(at), Cut::Style(at), Cut::Dull(at)]);
     }
     let room = script.start.file.len();
     cuts.extend([needed(script), room / 2, room.saturating_sub(1)].map(Cut::Room));
@@ -87,8 +107,18 @@ fn cuts(script: &Script) -> Vec<Cut> {
 
 /// How far the steps come where there is room for all.
 fn needed(script: &Script) -> usize {
+    end_of(&script.calls)
+}
+
+/// The same without the last, which is the one that fails.
+fn reached(script: &Script) -> usize {
+    let before = script.calls.split_last().map(|(_, before)| before);
+    end_of(before.unwrap_or_default())
+}
+
+fn end_of(calls: &[Call]) -> usize {
     let mut desk = Desk::new(LONGEST_FILE);
-    for call in &script.calls {
+    for call in calls {
         made_right(&mut desk, call);
     }
     desk.written().len()
@@ -99,8 +129,13 @@ impl Cut {
         let mut new = script.clone();
         let end = |at: usize, run: usize| (at + run).min(script.calls.len());
         match self {
-            Self::Calls(at, run) | Self::CallsAndRoom(at, run) => {
+            Self::Calls(at, run) | Self::CallsAndRoom(at, run) | Self::CallsForText(at, run) => {
                 drop(new.calls.drain(at..end(at, run)));
+            }
+            Self::Given(at) => {
+                new.calls[at].step = given(new.calls[at].step)?;
+                let room = new.start.file.len() + 2 * HEADER;
+                new.start.file.resize(room, LENT);
             }
             Self::Text(at, less) | Self::TextAndRoom(at, less) => {
                 let text = &mut new.calls[at].text;
@@ -110,12 +145,28 @@ impl Cut {
             Self::Style(at) => new.calls[at].style = UNSTYLED,
             Self::Room(room) => new.start.file.truncate(room),
         }
-        if let Self::CallsAndRoom(..) | Self::TextAndRoom(..) = self {
-            let less = needed(script).checked_sub(needed(&new))?;
-            new.start
-                .file
-                .truncate(script.start.file.len().checked_sub(less)?);
+        match self {
+            Self::CallsAndRoom(..) | Self::TextAndRoom(..) => cut_room(&mut new, script)?,
+            Self::CallsForText(..) => lengthen(&mut new, script)?,
+            _ => {}
         }
         Some(new)
     }
+}
+
+/// As much less room as less is needed than before.
+fn cut_room(new: &mut Script, before: &Script) -> Option<()> {
+    let less = needed(before).checked_sub(needed(new))?;
+    let room = before.start.file.len().checked_sub(less)?;
+    new.start.file.truncate(room);
+    Some(())
+}
+
+/// Makes a long text longer, so that the last step is made as far on as before.
+fn lengthen(new: &mut Script, before: &Script) -> Option<()> {
+    let less = reached(before).checked_sub(reached(new))?;
+    let mut texts = new.calls.iter_mut().map(|call| &mut call.text);
+    let long = texts.find(|text| text.len() > LONGEST_FILE / 2)?;
+    long.resize(long.len() + less, b'a');
+    Some(())
 }
