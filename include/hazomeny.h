@@ -33,7 +33,7 @@ enum {
 /* The number of the refusal, 1 to 11, or 0 if the file or step is accepted. */
 static inline unsigned hazomeny_refusal(uint64_t answer) { return (unsigned)(answer & 255); }
 
-/* The count of an accepted answer, or the place of a refusal: a byte of the file, or for refusal 10 the bytes that the page, or a writer's file,
+/* The count of an accepted answer, or the place of a refusal: a byte of the file, or for refusal 10 the bytes that the page or a writer's file
  * needs. */
 static inline uint64_t hazomeny_number(uint64_t answer) { return answer >> 8; }
 
@@ -60,13 +60,15 @@ uint64_t hazomeny_html_document(const uint8_t *file, size_t length, uint8_t *pag
 /* A writer: the bytes that it writes a fragment file into, how many they are, and how far it has come. The struct is the caller's own.
  * hazomeny_writer_over starts one; below are the steps, which write a file from its front to its end. examples/write.c writes a call.
  *
- * Each step answers how many bytes are written so far, and hazomeny_finish the length of the file. That hazomeny_check accepts the file is proved.
+ * Each step answers how many bytes are written so far, and hazomeny_finish the length of the file, which hazomeny_check accepts: that is
+ * proved.
  *
  * Every answer has to be looked at: a refused step has changed nothing, neither file nor writer, and the next step is taken as if it had not
  * been tried. The first of these refusals answers, and its place, but for 10, is how many bytes were written before the step:
  *
- *     11  the step is not allowed where the writer stands: a node outside a fragment or entry, a close of what is not the innermost open field,
- *         a finish while one is open; or there is no such step; or `state` is none that a writer can have
+ *     11  the step is not allowed where the writer stands: a node in a block but not in a fragment of it, a close of what is not the innermost
+ *         open field, a join behind a node where none is, a finish while a field is open; or there is no such step; or `state` is none that a
+ *         writer can have
  *      8  the style is not allowed: an opacity that is neither 0 nor from 1/1024 to 1, or without a colour; a size over 117; both scripts
  *      7  the text or name is not UTF-8
  *      9  an anchor's name has a `"`
@@ -80,8 +82,8 @@ typedef struct hazomeny_writer {
     uint32_t state[2]; /* the library's own; {0, 0} at the start */
 } hazomeny_writer;
 
-/* The style of a text. A `has_` member that is not 0 says that the value behind it counts, and `styled` that any of it does: without it the text
- * has no style, with it alone an empty one. Where a function takes a style NULL is none. */
+/* The style of a text. A `has_` member that is not 0 says that the value behind it counts, and `styled` that any of it does: without it the
+ * text has no style, with it alone an empty one. Where a function takes a style NULL is none. */
 typedef struct hazomeny_style {
     uint8_t styled;
     uint8_t has_colour;
@@ -155,8 +157,8 @@ static inline uint64_t hazomeny_step_with(hazomeny_writer *writer, uint8_t step,
 }
 static inline uint64_t hazomeny_step(hazomeny_writer *writer, uint8_t step) { return hazomeny_step_with(writer, step, NULL, NULL, 0); }
 
-/* Nodes without an inside: a text, which is also allowed in an anchor; a space, or a line's end in its place; what follows goes on another line;
- * a text that shows only where the block around it is broken into lines. */
+/* Nodes without an inside: a text, which is also allowed in an anchor; a space, or a line's end in its place; what follows goes on another
+ * line; a text that shows only where the block around it is broken into lines. */
 static inline uint64_t hazomeny_write_text(hazomeny_writer *writer, const hazomeny_style *style, const void *text, size_t length) {
     return hazomeny_step_with(writer, HAZOMENY_STEP_TEXT, style, text, length);
 }
@@ -190,9 +192,9 @@ static inline uint64_t hazomeny_close_block(hazomeny_writer *writer) { return ha
 static inline uint64_t hazomeny_open_fragment(hazomeny_writer *writer) { return hazomeny_step(writer, HAZOMENY_STEP_OPEN_FRAGMENT); }
 static inline uint64_t hazomeny_close_fragment(hazomeny_writer *writer) { return hazomeny_step(writer, HAZOMENY_STEP_CLOSE_FRAGMENT); }
 
-/* A join: entries, each begun by hazomeny_next_entry and holding any nodes. By spaces it shows as `header a b`, by commas as `prefix a, b suffix`,
- * or with each entry on lines of its own. The header or prefix is the text given here; for the functions with `_behind` it is the node just
- * written, of whatever kind. The suffix is a text. */
+/* A join: entries, each begun by hazomeny_next_entry and holding any nodes. By spaces it shows as `header a b`, by commas as
+ * `prefix a, b suffix`, or with each entry on lines of its own. The header or prefix is the text given here; for the functions with `_behind`
+ * it is the node just written, of whatever kind. The suffix is a text. */
 static inline uint64_t hazomeny_begin_join_space(hazomeny_writer *writer, const hazomeny_style *style, const void *header, size_t length) {
     return hazomeny_step_with(writer, HAZOMENY_STEP_BEGIN_JOIN_SPACE, style, header, length);
 }
