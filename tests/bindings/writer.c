@@ -119,7 +119,9 @@ static void every_style(void) {
     style.has_thickness = style.has_size = style.subscript = 0;
     style.superscript = style.dim = 255;
     STYLE_IS(&style, 16, 0, 6, 37, 0, 0, 38, 0, 0, 17, 0, 1, 'x');
-    style.styled = 0;
+    style.styled = 0; /* what would be refused is then not looked at */
+    style.subscript = style.has_opacity = style.has_size = 1;
+    style.size = 118;
     STYLE_IS(&style, 17, 0, 1, 'x');
 }
 

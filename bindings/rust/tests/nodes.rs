@@ -220,6 +220,39 @@ fn a_closure_can_neither_leave_its_field_nor_leave_one_open() {
     }
 }
 
+/// The inside of a node: these steps, which would leave it, are refused, and then a text is written.
+fn stays(w: &mut Grown, leave: &[Node]) -> Said {
+    let at = w.written();
+    for step in leave {
+        assert_eq!(step(w), refused(11, at));
+    }
+    w.text("x")
+}
+
+#[test]
+fn no_step_leaves_what_a_closure_is_the_inside_of() {
+    let anchor = file_of(|w| w.anchor_use("n", |w| stays(w, &[|w| w.close_anchor()])));
+    let right = field(2, &[field(19, b"n"), text("x")].concat());
+    assert_eq!(anchor, right);
+
+    let in_block = file_of(|w| {
+        w.indented_block(|w| {
+            assert_eq!(w.close_block(), refused(11, 3));
+            w.fragment(|w| stays(w, &[|w| w.close_fragment()]))
+        })
+    });
+    assert_eq!(in_block, block(3, &[text("x")]));
+
+    let by_spaces: [Node; 2] = [|w| w.end_join_space(), |w| w.next_entry()];
+    let file = file_of(|w| w.join_space("h", |join| join.entry(|w| stays(w, &by_spaces))));
+    assert_eq!(file, [text("h"), spaced(&[text("x")])].concat());
+
+    let by_commas: [Node; 2] = [|w| w.end_join_comma_sep("y"), |w| w.next_entry()];
+    let file = file_of(|w| w.join_comma_sep("h", "t", |join| join.entry(|w| stays(w, &by_commas))));
+    let right = [text("h"), comma_separated(&[text("x")]), text("t")].concat();
+    assert_eq!(file, right);
+}
+
 #[test]
 fn steps_and_closures_mix() {
     let file = file_of(|w| {
