@@ -132,45 +132,60 @@ fn joined(begin: &[Step], count: usize, end: Step) -> Vec<u8> {
     w.finish().expect("nothing is open")
 }
 
+/// `h`, dim.
+fn dim_h() -> Vec<u8> {
+    field(1, &[field(16, &field(38, b"")), field(17, b"h")].concat())
+}
+
 #[test]
-fn joins_of_no_entry_to_three() {
+fn joins_by_spaces_of_no_entry_to_three() {
     let entries = ["0", "1", "2"].map(text);
-    let styled = field(1, &[field(16, &field(38, b"")), field(17, b"h")].concat());
-    let given: [(&[Step], Vec<u8>); 3] = [
+    let begun: [(&[Step], Vec<u8>); 3] = [
         (&[|w| w.begin_join_space("h")], text("h")),
         (
             &[|w| w.begin_join_space(Style::new().dim().apply("h"))],
-            styled.clone(),
+            dim_h(),
         ),
         (
             &[|w| w.breaking_only_space(), |w| w.begin_join_space_behind()],
             field(5, b""),
         ),
     ];
-    let prefixes: [(&[Step], Vec<u8>); 3] = [
+    for count in 0..=3 {
+        for (begin, header) in &begun {
+            let right = [&header[..], &spaced(&entries[..count])].concat();
+            assert_eq!(joined(begin, count, |w| w.end_join_space()), right);
+        }
+    }
+}
+
+#[test]
+fn joins_by_commas_of_no_entry_to_three() {
+    let entries = ["0", "1", "2"].map(text);
+    let begun: [(&[Step], Vec<u8>); 3] = [
         (&[|w| w.begin_join_comma_sep("f(")], text("f(")),
         (
             &[|w| w.begin_join_comma_sep(Style::new().dim().apply("h"))],
-            styled.clone(),
+            dim_h(),
         ),
         (
             &[|w| w.text("g("), |w| w.begin_join_comma_sep_behind()],
             text("g("),
         ),
     ];
+    let ends: [(Step, Vec<u8>); 2] = [
+        (|w| w.end_join_comma_sep(")"), text(")")),
+        (
+            |w| w.end_join_comma_sep(Style::new().dim().apply("h")),
+            dim_h(),
+        ),
+    ];
     for count in 0..=3 {
-        for (begin, header) in &given {
-            let right = [&header[..], &spaced(&entries[..count])].concat();
-            assert_eq!(joined(begin, count, |w| w.end_join_space()), right);
-        }
-        for (begin, prefix) in &prefixes {
-            let join = [&prefix[..], &comma_separated(&entries[..count])].concat();
-            let plain = [&join[..], &text(")")].concat();
-            assert_eq!(joined(begin, count, |w| w.end_join_comma_sep(")")), plain);
-            let dim = joined(begin, count, |w| {
-                w.end_join_comma_sep(Style::new().dim().apply("h"))
-            });
-            assert_eq!(dim, [&join[..], &styled].concat());
+        for ((begin, prefix), (end, suffix)) in
+            begun.iter().flat_map(|b| ends.iter().map(move |e| (b, e)))
+        {
+            let right = [&prefix[..], &comma_separated(&entries[..count]), suffix].concat();
+            assert_eq!(joined(begin, count, *end), right);
         }
     }
 }
