@@ -1,5 +1,7 @@
 //! The commands: what each reads, prints and exits with.
 
+mod writing;
+
 use crate::answers::{answer, rendered, Answer, Operation, Request};
 use crate::check::check;
 use crate::compare::{self, Disagreement, Stop, Tally};
@@ -13,8 +15,6 @@ use crate::numbers::{self, Misprint};
 use crate::options::Options;
 use crate::random::Random;
 use crate::record;
-use crate::scribe::{Scribe, Second};
-use crate::scripts;
 use crate::selftest;
 use crate::subject::{Child, Oneself, Subject};
 use crate::tags::{FULL_OPACITY, LEAST_OPACITY};
@@ -103,9 +103,9 @@ pub fn run(words: &[String]) -> Result<ExitCode, Mistake> {
         }
         "scripts" => {
             let allowed = ["subject", "seed", "files", "seconds"];
-            run_scripts(&Options::new(rest, &allowed)?)
+            writing::run_scripts(&Options::new(rest, &allowed)?)
         }
-        "lister" => run_lister(&Options::new(rest, &["width"])?),
+        "lister" => writing::run_lister(&Options::new(rest, &["width"])?),
         "numbers" => run_numbers(&Options::new(rest, &["subject", "every", "from"])?),
         "selftest" => run_selftest(&Options::new(rest, &["seed", "files"])?),
         "help" | "--help" => print(USAGE.as_bytes()),
@@ -265,25 +265,6 @@ fn library() -> Result<Box<dyn Subject>, Mistake> {
     Err(WITHOUT_LIBRARY.into())
 }
 
-#[cfg(feature = "linked")]
-fn writing_library() -> Result<Box<dyn Scribe>, Mistake> {
-    Ok(Box::new(crate::library::Library::new()))
-}
-
-#[cfg(not(feature = "linked"))]
-fn writing_library() -> Result<Box<dyn Scribe>, Mistake> {
-    Err(WITHOUT_LIBRARY.into())
-}
-
-/// The writer asked for.
-fn scribe(options: &Options) -> Result<Box<dyn Scribe>, Mistake> {
-    match options.text("subject") {
-        Some("self") => Ok(Box::new(Second::new())),
-        Some("library") => writing_library(),
-        _ => Err("a --subject is needed, `self` or `library`".into()),
-    }
-}
-
 /// The subject asked for.
 fn subject(options: &Options, parts: &[Operation]) -> Result<Box<dyn Subject>, Mistake> {
     match options.text("subject") {
@@ -363,48 +344,6 @@ fn run_words(options: &Options) -> Result<ExitCode, Mistake> {
         let tally = words::run(subject, seed, extent)?;
         Ok((tally.files, format!("the same words: {}", tally.words())))
     })
-}
-
-fn run_scripts(options: &Options) -> Result<ExitCode, Mistake> {
-    let [] = options.words()?;
-    let seed = seed(options)?;
-    let extent = extent(options)?;
-    let mut scribe = scribe(options)?;
-    println!("seed {seed}");
-    let start = Instant::now();
-    match scripts::run(&mut *scribe, seed, extent) {
-        Ok(tally) => {
-            let per_minute = tally.scripts as f64 * 60.0 / start.elapsed().as_secs_f64();
-            println!(
-                "no disagreement: {}; {per_minute:.0} scripts per minute",
-                tally.words()
-            );
-            Ok(ExitCode::SUCCESS)
-        }
-        Err(stop) => stopped(stop, scripts::Unlike::words),
-    }
-}
-
-#[cfg(feature = "linked")]
-fn run_lister(options: &Options) -> Result<ExitCode, Mistake> {
-    let [] = options.words()?;
-    let width = options.number("width")?.unwrap_or(24);
-    match crate::switched::pages(width) {
-        Ok(pages) => {
-            println!("the original:\n{}\n", pages.original);
-            println!("the library:\n{}", pages.library);
-            Ok(ExitCode::from(u8::from(pages.original != pages.library)))
-        }
-        Err(refusal) => {
-            println!("{refusal}");
-            Ok(ExitCode::FAILURE)
-        }
-    }
-}
-
-#[cfg(not(feature = "linked"))]
-fn run_lister(_: &Options) -> Result<ExitCode, Mistake> {
-    Err(WITHOUT_LIBRARY.into())
 }
 
 /// Runs something on a subject, and says what came of it: of how many files, in words.

@@ -3,7 +3,6 @@
 use crate::answers::LENT;
 use crate::check::Refusal;
 use crate::hex::hex;
-use crate::print::pretty::Fragment;
 use crate::subject::{Oneself, Subject};
 use crate::writer::{self, Step};
 
@@ -39,16 +38,19 @@ impl Call {
     }
 
     pub fn words(&self) -> String {
-        let name = match Step::numbered(self.step) {
-            Some(step) => format!("{step:?}"),
-            None => "none".into(),
+        let mut words = match Step::numbered(self.step) {
+            Some(step) => format!("step {} ({step:?})", self.step),
+            None => format!("step {}", self.step),
         };
-        let (step, style) = (self.step, hex(&self.style));
-        let text = match self.text.get(..MOST_SHOWN) {
-            Some(front) => format!("of {} bytes, {}..", self.text.len(), hex(front)),
-            None => hex(&self.text),
-        };
-        format!("step {step} ({name}), style {style}, text {text}")
+        if self.style != UNSTYLED {
+            words += &format!(", style {}", hex(&self.style));
+        }
+        match self.text.get(..MOST_SHOWN) {
+            Some(front) => words += &format!(", text {}.., bytes {}", hex(front), self.text.len()),
+            None if self.text.is_empty() => {}
+            None => words += &format!(", text {}", hex(&self.text)),
+        }
+        words
     }
 }
 
@@ -81,8 +83,8 @@ pub trait Scribe {
     /// What checks, lays out and prints the files that it writes.
     fn printer(&mut self) -> &mut dyn Subject;
 
-    /// The file of a tree of the original, written into so many bytes; none if it takes no trees.
-    fn list(&mut self, _tree: &Fragment, _room: usize) -> Option<Result<Vec<u8>, Refusal>> {
+    /// What the lister writes of the original's tree of an accepted file, into so many bytes; none where it is not linked.
+    fn list(&mut self, _file: &[u8], _room: usize) -> Option<Result<Vec<u8>, Refusal>> {
         None
     }
 }

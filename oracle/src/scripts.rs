@@ -10,8 +10,10 @@ mod shrink;
 mod style;
 mod tally;
 
+use crate::answers::{Answer, LENT};
 use crate::compare::Stop;
 use crate::extent::Extent;
+use crate::field::Field;
 use crate::hex::hex;
 use crate::random::Random;
 use crate::scribe::{made_right, Call, Desk, Scribe};
@@ -37,7 +39,9 @@ impl Script {
         let (room, [at, top]) = (self.start.file.len(), self.start.state);
         let mut words = format!("room {room}, state {at}, {top}");
         if !self.is_new() {
-            words += &format!(", buffer {}", hex(&self.start.file));
+            let filled = self.start.file.iter().rposition(|byte| *byte != LENT);
+            let shown = &self.start.file[..filled.map_or(0, |last| last + 1)];
+            words += &format!(", buffer {}, then {LENT:02x}", hex(shown));
         }
         for call in &self.calls {
             words += &format!("\n  {}", call.words());
@@ -83,12 +87,10 @@ fn place(answer: u64) -> usize {
 }
 
 fn answer_words(answer: u64) -> String {
+    let place = place(answer);
     wire::answer_words(match refusal(answer) {
-        0 => crate::answers::Answer::Accepted(place(answer)),
-        number => crate::answers::Answer::Refused {
-            number,
-            place: place(answer),
-        },
+        0 => Answer::Accepted(place),
+        number => Answer::Refused { number, place },
     })
 }
 
@@ -99,16 +101,23 @@ pub fn run(scribe: &mut dyn Scribe, seed: u64, extent: Extent) -> Result<Tally, 
         let mut random = Random::new(seed, number);
         match random.below(16) {
             0..=6 => drop(judge_all(scribe, &random::script(&mut random), &mut tally)?),
-            7..=11 => drop(judge_all(
-                scribe,
-                &corrupt::corrupted(&mut random),
-                &mut tally,
-            )?),
+            7..=11 => judge_corrupted(scribe, &mut random, &mut tally)?,
             12 | 13 => files::judge_read_off(scribe, &mut random, &mut tally)?,
             _ => files::judge_listing(scribe, &mut random, &mut tally)?,
         }
     }
     Ok(tally)
+}
+
+fn judge_corrupted(
+    scribe: &mut dyn Scribe,
+    random: &mut Random,
+    tally: &mut Tally,
+) -> Result<(), Stop<Unlike>> {
+    for script in corrupt::corrupted(random) {
+        judge_all(scribe, &script, tally)?;
+    }
+    Ok(())
 }
 
 /// Judges a script; one that fails is made small.
@@ -211,7 +220,7 @@ impl Right {
     }
 
     /// The tree of a file that the last step finished.
-    fn finished(&self, script: &Script, answers: &[u64]) -> Option<&[crate::field::Field]> {
+    fn finished(&self, script: &Script, answers: &[u64]) -> Option<&[Field]> {
         let last = script.calls.last()?;
         let accepted = refusal(*answers.last()?) == 0;
         let finishes = last.step == Step::Finish as u8 && accepted;

@@ -3,9 +3,9 @@
 use super::Library;
 use crate::check::Refusal;
 use crate::lister;
-use crate::print::pretty::Fragment;
 use crate::scribe::{Call, Desk, Scribe};
 use crate::subject::Subject;
+use crate::tree;
 
 extern "C" {
     fn hazomeny_write(
@@ -57,12 +57,11 @@ impl Scribe for Library {
         self
     }
 
-    fn list(&mut self, tree: &Fragment, room: usize) -> Option<Result<Vec<u8>, Refusal>> {
-        self.file.lend(room);
-        let listed = lister::list(tree, self.file.lent_mut());
-        Some(match listed {
-            Ok(file) => Ok(file.to_vec()),
-            Err(hazomeny::Refusal { number, place }) => Err(Refusal { number, place }),
-        })
+    fn list(&mut self, file: &[u8], room: usize) -> Option<Result<Vec<u8>, Refusal>> {
+        let listed = tree::with_tree(file, room, |tree, room| {
+            lister::list(&tree, &mut vec![0; room]).map(|file| file.to_vec())
+        });
+        let refused = |hazomeny::Refusal { number, place }| Refusal { number, place };
+        Some(listed.map_err(refused))
     }
 }

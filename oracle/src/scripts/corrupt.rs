@@ -3,24 +3,46 @@
 use super::random::{any_call, script};
 use super::Script;
 use crate::random::Random;
-use crate::scribe::{made_right, Desk};
+use crate::scribe::{made_right, Call, Desk};
 use crate::tags::LONGEST_FILE;
+use crate::writer::Step;
 
-/// A script that begins with a corrupted state.
-pub fn corrupted(random: &mut Random) -> Script {
+/// What a script came to is corrupted in so many ways.
+const WAYS: usize = 6;
+
+/// Scripts that begin with a corrupted state.
+pub fn corrupted(random: &mut Random) -> Vec<Script> {
     let Script { mut start, calls } = script(random);
     let until = random.below(calls.len());
     for call in &calls[..until] {
         made_right(&mut start, call);
     }
+    (0..WAYS).map(|_| one_way(random, start.clone())).collect()
+}
+
+fn one_way(random: &mut Random, mut start: Desk) -> Script {
     for _ in 0..random.between(1, 3) {
         corrupt(random, &mut start);
     }
-    let calls = (0..random.between(1, 4)).map(|_| any_call(random));
+    let fitting = fitting_call(random, &start);
+    let others = (0..random.below(4)).map(|_| any_call(random));
     Script {
-        calls: calls.collect(),
+        calls: fitting.into_iter().chain(others).collect(),
         start,
     }
+}
+
+/// A step that leads out of what the innermost header says, if it is there.
+fn fitting_call(random: &mut Random, desk: &Desk) -> Option<Call> {
+    let code = desk.file.get((desk.state[1] as usize).checked_sub(1)?)?;
+    let step = match code / 32 {
+        0 => Step::CloseFragment,
+        1 | 5 => random.pick(&[Step::EndSpace, Step::EndSpace, Step::NextEntry]),
+        2 | 6 => random.pick(&[Step::EndComma, Step::EndComma, Step::NextEntry]),
+        3 | 4 => random.pick(&[Step::CloseBlock, Step::OpenFragment]),
+        _ => Step::CloseAnchor,
+    };
+    (!random.one_in(4)).then(|| Call::bare(step))
 }
 
 fn corrupt(random: &mut Random, desk: &mut Desk) {
@@ -63,7 +85,11 @@ fn change_header(random: &mut Random, desk: &mut Desk) {
     if places.is_empty() {
         return scatter(random, desk);
     }
-    let place = random.pick(&places);
+    let place = if random.one_in(2) {
+        places[0]
+    } else {
+        random.pick(&places)
+    };
     let header = &mut desk.file[place..place + 3];
     match random.below(6) {
         0 => header[0] = random.byte(),

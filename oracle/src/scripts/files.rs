@@ -10,6 +10,7 @@ use crate::generate;
 use crate::hex::hex;
 use crate::random::Random;
 use crate::scribe::{Desk, Scribe};
+use crate::shrink::shrink;
 use crate::subject;
 use crate::tags::LARGEST_WIDTH;
 use crate::tree;
@@ -49,6 +50,7 @@ pub fn judge_read_off(
         calls: read_off::calls(random, &fields),
     };
     let whole = gives(scribe, &script, &file, tally)?;
+    judge_lister(scribe, &file)?;
     tally.read_off += 1;
     if file.is_empty() {
         return Ok(());
@@ -113,10 +115,8 @@ pub fn judge_listing(
     gives(scribe, &script, &file, tally)?;
     tally.listings += 1;
     let width = generate::width(random, file.len()).min(LARGEST_WIDTH);
-    let printed = printed_alike(scribe, &listing, &file, width);
-    printed
-        .and_then(|()| listed_alike(scribe, &listing, &file))
-        .map_err(|why| unlike(&script, why))
+    printed_alike(scribe, &listing, &file, width).map_err(|why| unlike(&script, why))?;
+    judge_lister(scribe, &file)
 }
 
 /// The file laid out, its plain page and its HTML body.
@@ -144,26 +144,39 @@ fn printed_alike(
     Ok(())
 }
 
-/// The tree itself handed to the writer, in just enough room and in too little.
-fn listed_alike(scribe: &mut dyn Scribe, listing: &Listing, file: &[u8]) -> Result<(), String> {
-    let tree = listing.tree();
-    match scribe.list(&tree, file.len()) {
-        Some(listed) if listed.as_deref() != Ok(file) => {
-            return Err(format!("the lister gives {listed:?} of the tree"));
-        }
-        _ => {}
-    }
-    let Some(room) = file.len().checked_sub(1) else {
+/// The lister over the tree of an accepted file. A file that fails is made small.
+fn judge_lister(scribe: &mut dyn Scribe, file: &[u8]) -> Result<(), Stop<Unlike>> {
+    if listed_alike(scribe, file).is_ok() {
         return Ok(());
+    }
+    let small = shrink(Request::check(file.to_vec()), &mut |tried| {
+        let mut files = tried.iter().map(|request| &request.file);
+        files.position(|file| check(file).is_ok() && listed_alike(scribe, file).is_err())
+    });
+    let why = listed_alike(scribe, &small.file).err();
+    let script = Script {
+        start: Desk::new(small.file.len()),
+        calls: read_off::calls(&mut Random::new(0, 0), &field::parse(&small.file)),
     };
+    let why = why.unwrap_or("the lister fails, but not each time".into());
+    Err(unlike(&script, why))
+}
+
+/// In just enough room it writes the file, and in a byte less it is refused by 10.
+fn listed_alike(scribe: &mut dyn Scribe, file: &[u8]) -> Result<(), String> {
     let needed = Refusal {
         number: 10,
         place: file.len(),
     };
-    match scribe.list(&tree, room) {
-        Some(listed) if listed != Err(needed) => {
-            Err(format!("the lister gives {listed:?} in a byte too few"))
+    let rooms = [
+        (Some(file.len()), Ok(file.to_vec())),
+        (file.len().checked_sub(1), Err(needed)),
+    ];
+    for (room, right) in rooms {
+        let listed = room.and_then(|room| scribe.list(file, room));
+        if listed.as_ref().is_some_and(|listed| *listed != right) {
+            return Err(format!("the lister gives {listed:?} in place of {right:?}"));
         }
-        _ => Ok(()),
     }
+    Ok(())
 }
