@@ -90,13 +90,7 @@ pub trait Scribe {
 }
 
 /// The second writer, beside the judge.
-pub struct Second(Oneself);
-
-impl Second {
-    pub fn new() -> Self {
-        Self(Oneself)
-    }
-}
+pub struct Second(pub Oneself);
 
 impl Scribe for Second {
     fn make(&mut self, desk: &mut Desk, call: &Call) -> Result<u64, String> {

@@ -195,7 +195,7 @@ fn wrong_of_words(seed: u64) -> Result<Vec<String>, String> {
 
 /// `scripts` finds no fault in the judge's own writers, and every refusal of a writer comes up.
 fn scripts_alike(seed: u64, files: u64) -> Result<String, String> {
-    match scripts::run(&mut Second::new(), seed, Extent::Files(files)) {
+    match scripts::run(&mut Second(Oneself), seed, Extent::Files(files)) {
         Ok(tally) => match tally.missing().filter(|_| files >= 2_000) {
             Some(number) => Err(format!("no step was refused by {number}")),
             None => Ok(format!("scripts of the writers: {}", tally.words())),

@@ -4,6 +4,7 @@ use super::{extent, seed, stopped, Mistake};
 use crate::options::Options;
 use crate::scribe::{Scribe, Second};
 use crate::scripts;
+use crate::subject::Oneself;
 use std::process::ExitCode;
 use std::time::Instant;
 
@@ -40,7 +41,7 @@ fn writing_library() -> Result<Box<dyn Scribe>, Mistake> {
 /// The writer asked for.
 fn scribe(options: &Options) -> Result<Box<dyn Scribe>, Mistake> {
     match options.text("subject") {
-        Some("self") => Ok(Box::new(Second::new())),
+        Some("self") => Ok(Box::new(Second(Oneself))),
         Some("library") => writing_library(),
         _ => Err("a --subject is needed, `self` or `library`".into()),
     }

@@ -64,6 +64,7 @@ const SPACE_ENTRY: u8 = 1;
 const COMMA_ENTRY: u8 = 2;
 const SPACE_JOIN: u8 = 5;
 const COMMA_JOIN: u8 = 6;
+const ANCHOR_KIND: u8 = 7;
 
 fn coded(number: u8, above: usize) -> u64 {
     (above as u64) << 8 | u64::from(number)
@@ -274,7 +275,7 @@ fn empty_style_lost(desk: &mut Desk, call: &Call) -> u64 {
 
 fn finished_open(desk: &mut Desk, call: &Call) -> u64 {
     let said = made_right(desk, call);
-    let in_anchor = is_open(desk, 7);
+    let in_anchor = is_open(desk, ANCHOR_KIND);
     match said & 255 {
         11 if is_step(call, Step::Finish) && in_anchor => coded(0, at(desk)),
         _ => said,
