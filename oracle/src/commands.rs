@@ -1,5 +1,7 @@
 //! The commands: what each reads, prints and exits with.
 
+mod writing;
+
 use crate::answers::{answer, rendered, Answer, Operation, Request};
 use crate::check::check;
 use crate::compare::{self, Disagreement, Stop, Tally};
@@ -54,6 +56,15 @@ oracle COMMAND: the Rust original's answers for fragment files
                                their texts, and the same tags, at two widths
                                and not laid out; with 7s too a plain page has
                                at most 67 times the bytes of its file
+  scripts --subject WHAT [--seed S] [--files N | --seconds N]
+                               steps of a writer, most scripts of them wrong
+                               somewhere, are answered as the judge's own
+                               writers answer; the files are the trees asked
+                               for, those of the original's joins too; WHAT is
+                               `self` or `library`
+  lister [--width W]           shows a listing that the original's functions
+                               build, by the original and, written in the
+                               library's steps, by the library
   numbers --subject WHAT [--every N] [--from K]
                                compares every opacity, size and weight in HTML
                                bodies; of the opacities from 1/1024 to 1 only
@@ -90,6 +101,11 @@ pub fn run(words: &[String]) -> Result<ExitCode, Mistake> {
             let allowed = ["subject", "seed", "files", "seconds"];
             run_words(&Options::new(rest, &allowed)?)
         }
+        "scripts" => {
+            let allowed = ["subject", "seed", "files", "seconds"];
+            writing::run_scripts(&Options::new(rest, &allowed)?)
+        }
+        "lister" => writing::run_lister(&Options::new(rest, &["width"])?),
         "numbers" => run_numbers(&Options::new(rest, &["subject", "every", "from"])?),
         "selftest" => run_selftest(&Options::new(rest, &["seed", "files"])?),
         "help" | "--help" => print(USAGE.as_bytes()),
@@ -235,6 +251,10 @@ fn extent(options: &Options) -> Result<Extent, Mistake> {
     }
 }
 
+#[cfg(not(feature = "linked"))]
+const WITHOUT_LIBRARY: &str =
+    "this judge was built without the library; tests/linked/compare builds one with it";
+
 #[cfg(feature = "linked")]
 fn library() -> Result<Box<dyn Subject>, Mistake> {
     Ok(Box::new(crate::library::Library::new()))
@@ -242,7 +262,7 @@ fn library() -> Result<Box<dyn Subject>, Mistake> {
 
 #[cfg(not(feature = "linked"))]
 fn library() -> Result<Box<dyn Subject>, Mistake> {
-    Err("this judge was built without the library; tests/linked/compare builds one with it".into())
+    Err(WITHOUT_LIBRARY.into())
 }
 
 /// The subject asked for.

@@ -17,6 +17,8 @@ pub mod known;
 #[cfg(feature = "linked")]
 pub mod library;
 #[cfg(feature = "linked")]
+pub mod lister;
+#[cfg(feature = "linked")]
 pub mod lists;
 pub mod masks;
 pub mod numbers;
@@ -24,13 +26,18 @@ pub mod options;
 pub mod properties;
 pub mod random;
 pub mod record;
+pub mod scribe;
+pub mod scripts;
 pub mod selftest;
 pub mod shrink;
 pub mod subject;
+#[cfg(feature = "linked")]
+pub mod switched;
 pub mod tags;
 pub mod tree;
 pub mod wire;
 pub mod words;
+pub mod writer;
 pub mod wrong;
 
 /// The original, as `build.rs` brought it in.

@@ -1,5 +1,7 @@
 //! The proved library in this very program, as a subject: what it is lent stands between guards.
 
+mod writing;
+
 use crate::answers::{Answer, Asked, Operation, Outcome, Request, Right, LENT};
 use crate::subject::{Said, Subject};
 use hazomeny::Refusal;

@@ -13,11 +13,13 @@ use crate::masks;
 use crate::numbers::{self, Number, Tally};
 use crate::properties::{Held, Property, OF_ACCEPTED, OF_ANY};
 use crate::random::Random;
+use crate::scribe::Second;
+use crate::scripts;
 use crate::shrink::shrink;
 use crate::subject::Oneself;
 use crate::tags::LEAST_OPACITY;
 use crate::words;
-use crate::wrong::{self, Misprinter, Wrong};
+use crate::wrong::{self, Misprinter, Wrong, WrongScribe};
 use std::num::NonZeroUsize;
 use std::panic::{catch_unwind, AssertUnwindSafe};
 
@@ -60,6 +62,8 @@ pub fn run(seed: u64, files: u64) -> Result<Vec<String>, String> {
     found.extend(wrong_of_masks(seed)?);
     found.push(same_words(seed, files / 50)?);
     found.extend(wrong_of_words(seed)?);
+    found.push(scripts_alike(seed, files / 20)?);
+    found.extend(wrong_of_scripts(seed)?);
     all_numbers()?;
     found.extend(misprints()?);
     Ok(found)
@@ -187,6 +191,38 @@ fn wrong_of_words(seed: u64) -> Result<Vec<String>, String> {
         })
     };
     wrong::of_words().into_iter().map(tried).collect()
+}
+
+/// `scripts` finds no fault in the judge's own writers, and every refusal of a writer comes up.
+fn scripts_alike(seed: u64, files: u64) -> Result<String, String> {
+    match scripts::run(&mut Second(Oneself), seed, Extent::Files(files)) {
+        Ok(tally) => match tally.missing().filter(|_| files >= 2_000) {
+            Some(number) => Err(format!("no step was refused by {number}")),
+            None => Ok(format!("scripts of the writers: {}", tally.words())),
+        },
+        Err(Stop::CannotAsk(why)) => Err(why),
+        Err(Stop::Differs(unlike)) => Err(unlike.words()),
+    }
+}
+
+/// `scripts` has to find every wrong writer, in few steps.
+fn wrong_of_scripts(seed: u64) -> Result<Vec<String>, String> {
+    let tried = |mut wrong: WrongScribe| {
+        let ran = scripts::run(&mut wrong, seed, Extent::Files(20_000));
+        let (name, most) = (wrong.name, wrong.most_steps);
+        match ran {
+            Ok(_) => Err(format!("not found: {name}")),
+            Err(Stop::CannotAsk(why)) => Err(format!("{name}: {why}")),
+            Err(Stop::Differs(unlike)) => match unlike.script.calls.len() {
+                steps if steps <= most => Ok(format!("found in {steps} steps: {name}")),
+                steps => Err(format!(
+                    "{name}: {steps} steps, over {most}\n{}",
+                    unlike.words()
+                )),
+            },
+        }
+    };
+    wrong::of_scripts().into_iter().map(tried).collect()
 }
 
 /// Of the opacities one in so many: enough for more files than are asked at once.

@@ -10,14 +10,14 @@ type Run = (Option<Styles>, Cow<'static, str>);
 
 /// The file after the original laid it out at `width`.
 pub fn laid_out(file: &[u8], width: u16) -> Vec<u8> {
-    with_tree(file, width, |tree, width| {
+    with_tree(file, width.into(), |tree, width| {
         encode(&tree.layout_with_max_line_width(width).into_fragment())
     })
 }
 
 /// The original's plain page of the file laid out at `width`.
 pub fn laid_out_plain(file: &[u8], width: u16) -> Vec<u8> {
-    with_tree(file, width, |tree, width| {
+    with_tree(file, width.into(), |tree, width| {
         let page = tree.layout_with_max_line_width(width).to_string();
         page.into_bytes()
     })
@@ -25,7 +25,7 @@ pub fn laid_out_plain(file: &[u8], width: u16) -> Vec<u8> {
 
 /// How long the original takes to lay the file's tree out and print its plain page.
 pub fn time_of_layout_and_plain(file: &[u8], width: u16) -> Duration {
-    with_tree(file, width, |tree, width| {
+    with_tree(file, width.into(), |tree, width| {
         let start = Instant::now();
         let laid_out = tree.layout_with_max_line_width(width);
         let page = black_box(laid_out.to_string());
@@ -81,30 +81,47 @@ pub fn pages(file: &[u8]) -> [Vec<u8>; 3] {
     })
 }
 
+/// A tree after its layout, and how that is shown.
+pub struct Printed {
+    pub laid_out: Vec<u8>,
+    pub plain: Vec<u8>,
+    pub body: Vec<u8>,
+}
+
+/// What the original makes of a tree at `width`.
+pub fn printed(tree: Fragment, width: u16) -> Printed {
+    let tree = tree.layout_with_max_line_width(usize::from(width));
+    Printed {
+        plain: tree.to_string().into_bytes(),
+        body: tree.render_to_html().body.into_bytes(),
+        laid_out: encode(&tree.into_fragment()),
+    }
+}
+
 /// The file, decoded and encoded again.
 pub fn there_and_back(file: &[u8]) -> Vec<u8> {
     with_tree(file, 0, |tree, _| encode(&tree))
 }
 
-/// Runs `work` on the tree of an accepted file.
+/// Runs `work` on the tree of an accepted file and on a number, such as a width.
 ///
 /// The original's `IfBlockLayout` asks for a `&'static str`. Leaking each of
 /// them would fill the memory over hundreds of thousands of files, so the file
 /// itself is called static for as long as `work` runs.
-fn with_tree<R>(file: &[u8], width: u16, work: fn(Fragment, usize) -> R) -> R {
+pub fn with_tree<R>(file: &[u8], number: usize, work: fn(Fragment, usize) -> R) -> R {
     // SAFETY: no part of the tree outlives `file`, which is borrowed until this
     // function returns. The tree is moved into `work`; that is a function
     // without captures, so it has nowhere to keep a part of it, and what it
     // returns are bytes of its own or a time. The original keeps no statics.
     let lasting: &'static [u8] = unsafe { std::mem::transmute::<&[u8], &'static [u8]>(file) };
-    work(fragment(lasting), usize::from(width))
+    work(fragment(lasting), number)
 }
 
 /// The fields of an accepted value, one after the other.
-struct Fields(&'static [u8]);
+struct Fields<'a>(&'a [u8]);
 
-impl Iterator for Fields {
-    type Item = (u8, &'static [u8]);
+impl<'a> Iterator for Fields<'a> {
+    type Item = (u8, &'a [u8]);
 
     fn next(&mut self) -> Option<Self::Item> {
         let (&[tag, high, low], rest) = self.0.split_first_chunk::<HEADER>()?;
@@ -163,7 +180,8 @@ fn utf8(value: &'static [u8]) -> &'static str {
     std::str::from_utf8(value).expect("an accepted text is UTF-8")
 }
 
-fn styles(value: &'static [u8]) -> Styles {
+/// The styles of an accepted 16.
+pub fn styles(value: &[u8]) -> Styles {
     let mut styles = Styles::default();
     for (tag, value) in Fields(value) {
         match (tag, value) {
@@ -182,7 +200,8 @@ fn styles(value: &'static [u8]) -> Styles {
     styles
 }
 
-fn encode(tree: &Fragment) -> Vec<u8> {
+/// The file of a tree, which fits one.
+pub fn encode(tree: &Fragment) -> Vec<u8> {
     let mut out = Vec::new();
     put_nodes(&mut out, tree);
     out

@@ -33,6 +33,9 @@ pub fn largest_of(name: &str) -> Option<Input> {
         .map(Kind::largest)
 }
 
+/// The kind that is most like a listing.
+pub const CODE_LIKE: &str = "code-like";
+
 /// The kind whose page is its file's one text as it stands.
 pub const LONG_TEXT: &str = "one long text";
 
@@ -57,7 +60,7 @@ impl Kind {
 
 const KINDS: [Kind; 6] = [
     Kind {
-        name: "code-like",
+        name: CODE_LIKE,
         file: |size| of_pieces(size, statement),
     },
     Kind {

@@ -9,6 +9,7 @@ mod memory;
 mod plot;
 mod quartiles;
 mod stack;
+mod steps;
 mod table;
 mod timing;
 
@@ -41,6 +42,7 @@ fn tell(picture: &str, rounds: usize) -> Result<(), String> {
         .collect();
     print!("{}", table::times(&rows));
     print!("{}", table::quartiles(&rows));
+    print!("{}", table::writing(&rows));
     print!("{}", table::memcpy(&memcpy::rows(rounds)));
     print!("{}", goals::words(&rows));
     print!("{}", table::counts(&counts::rows()));

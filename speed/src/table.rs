@@ -45,6 +45,19 @@ pub fn quartiles(rows: &[Row]) -> String {
     out
 }
 
+/// Writing a file beside the Rust's building of its tree.
+pub fn writing(rows: &[Row]) -> String {
+    let mut out = String::from(
+        "\nWriting a file by its steps: the Rust's time for building the same tree over ours in the same round, median (lower to upper quartile)\n\n\
+         | Files | Bytes | Writing |\n|---|---|---|\n",
+    );
+    for row in rows {
+        let writing = row.ratios(Job::RustBuild, Job::OursWrite);
+        out += &format!("| {} | {} | {writing} |\n", row.kind, row.length);
+    }
+    out
+}
+
 /// One long text beside one copy of its page.
 pub fn memcpy(rows: &[memcpy::Row]) -> String {
     let mut out = format!(

@@ -2,6 +2,7 @@
 
 use crate::inputs::Input;
 use crate::quartiles::Quartiles;
+use crate::steps::Steps;
 use hazomeny::{HTML_FRAME, HTML_PER_BYTE, MOST_BYTES};
 use oracle::tree;
 use std::hint::black_box;
@@ -30,10 +31,16 @@ pub enum Job {
     RustHtml,
     /// Printing a tree that is there as a document.
     RustHtmlOfTree,
+    /// A file written by its steps, one call for each, into a buffer that is long enough. Which steps, and with which texts and styles, is
+    /// prepared; none is one of a join.
+    OursWrite,
+    /// The same tree built from as much that is prepared: every node and list of nodes is made and allocated, and no text is copied but an
+    /// anchor's name. That the tree is dropped is not timed.
+    RustBuild,
 }
 
 impl Job {
-    pub const ALL: [Self; 7] = [
+    pub const ALL: [Self; 9] = [
         Self::OursCheck,
         Self::OursPlain,
         Self::RustPlain,
@@ -41,6 +48,8 @@ impl Job {
         Self::OursHtml,
         Self::RustHtml,
         Self::RustHtmlOfTree,
+        Self::OursWrite,
+        Self::RustBuild,
     ];
 }
 
@@ -52,15 +61,17 @@ pub enum Entry {
     PlainPage,
     HtmlBody,
     HtmlDocument,
+    Writer,
 }
 
 impl Entry {
-    pub const ALL: [Self; 5] = [
+    pub const ALL: [Self; 6] = [
         Self::CheckFile,
         Self::LayoutFile,
         Self::PlainPage,
         Self::HtmlBody,
         Self::HtmlDocument,
+        Self::Writer,
     ];
 
     pub fn name(self) -> &'static str {
@@ -70,13 +81,15 @@ impl Entry {
             Self::PlainPage => "plain_page",
             Self::HtmlBody => "html_body",
             Self::HtmlDocument => "html_document",
+            Self::Writer => "Writer",
         }
     }
 }
 
-/// A file, its laid out copy, and room for pages.
+/// A file, its laid out copy, its steps, and room for pages.
 pub struct Bench {
     file: Vec<u8>,
+    steps: Steps,
     laid_out: Vec<u8>,
     copy: Vec<u8>,
     page: Vec<u8>,
@@ -86,12 +99,23 @@ impl Bench {
     pub fn new(file: Vec<u8>) -> Self {
         let mut laid_out = file.clone();
         hazomeny::layout_file(&mut laid_out, WIDTH).expect("the inputs are accepted");
-        Self {
+        let mut bench = Self {
             copy: file.clone(),
             page: vec![0; ROOM],
             laid_out,
+            steps: Steps::of(&file),
             file,
-        }
+        };
+        bench.hold_steps_to_file();
+        bench
+    }
+
+    /// What is timed as writing gives this file, and what is timed as building gives its tree, seen by its page.
+    fn hold_steps_to_file(&mut self) {
+        self.call(Entry::Writer);
+        assert_eq!(self.page[..self.file.len()], self.file);
+        let tree = self.steps.build().layout_with_max_line_width(WIDTH);
+        assert_eq!(tree.to_string().into_bytes(), self.plain_page());
     }
 
     /// The plain page of the file that is laid out.
@@ -107,6 +131,13 @@ impl Bench {
         match job {
             Job::RustPlainOfTree => tree::time_of_layout_and_plain(&self.file, WIDTH as u16),
             Job::RustHtmlOfTree => tree::time_of_document(&self.laid_out),
+            Job::RustBuild => {
+                let start = Instant::now();
+                let tree = black_box(self.steps.build());
+                let took = start.elapsed();
+                drop(tree);
+                took
+            }
             _ => {
                 let start = Instant::now();
                 self.run(job);
@@ -130,10 +161,12 @@ impl Bench {
             Job::RustHtml | Job::RustHtmlOfTree => {
                 drop(black_box(tree::document(&self.laid_out)));
             }
+            Job::OursWrite => self.call(Entry::Writer),
+            Job::RustBuild => drop(black_box(self.steps.build())),
         }
     }
 
-    /// One call of an entry: layout and plain page of the copy, HTML of the file that is laid out.
+    /// One call of an entry: layout and plain page of the copy, HTML of the file that is laid out; or all calls of a writer.
     pub fn call(&mut self, entry: Entry) {
         let answer = match entry {
             Entry::CheckFile => hazomeny::check_file(&self.file),
@@ -141,6 +174,7 @@ impl Bench {
             Entry::PlainPage => hazomeny::plain_page(&self.copy, &mut self.page),
             Entry::HtmlBody => hazomeny::html_body(&self.laid_out, &mut self.page),
             Entry::HtmlDocument => hazomeny::html_document(&self.laid_out, &mut self.page),
+            Entry::Writer => self.steps.write(&mut self.page),
         };
         black_box(answer).expect("the inputs are accepted");
     }

@@ -1,6 +1,7 @@
 #!/usr/bin/env python3
 """Holds the C header and the Rust crate to the proved library: the same functions, with the same parameters by name, order and type, and the
-same return type; the same limits. A linker compares none of this, and two parameters of one type can be swapped without a compiler's word."""
+same return type; the same limits. Holds the two to each other in what only they name: the writer's steps and a style's bytes. A linker compares
+none of this, and two parameters of one type can be swapped without a compiler's word."""
 
 import pathlib
 import re
@@ -12,49 +13,77 @@ sys.dont_write_bytecode = True
 ROOT = pathlib.Path(__file__).resolve().parents[2]
 PROVED = (ROOT / "crates" / "hazomeny" / "src" / "lib.rt").read_text()
 HEADER = (ROOT / "include" / "hazomeny.h").read_text()
-RUST = (ROOT / "bindings" / "rust" / "src" / "entries.rs").read_text()
-LIMITS = (ROOT / "bindings" / "rust" / "src" / "limits.rs").read_text()
+CRATE = ROOT / "bindings" / "rust" / "src"
+RUST = (CRATE / "c.rs").read_text()
+LIMITS = (CRATE / "limits.rs").read_text()
+STEPS = (CRATE / "step.rs").read_text()
+STYLE = (CRATE / "style.rs").read_text()
 CODE_LIMITS = (ROOT / "crates" / "rules" / "src" / "lib.rt").read_text()
 RULE_LIMITS = (ROOT / "crates" / "rules" / "specs" / "Limits.antt").read_text()
 
 # The limits that a caller has to know, by their names in the proved code.
 CALLERS_LIMITS = ["MOST_BYTES", "MOST_COLUMNS", "PLAIN_PER_BYTE", "HTML_PER_BYTE", "HTML_FRAME"]
 
-# What a parameter of a proved entry is in C and in Rust: a slice is a pointer and a length, and a page's length is called its room.
-LENGTHS = {"file": "length", "page": "room"}
-C_TYPES = {"&[u8]": "const uint8_t *", "&mut [u8]": "uint8_t *", "usize": "size_t ", "u64": "uint64_t"}
-RUST_TYPES = {"&[u8]": "*const u8", "&mut [u8]": "*mut u8", "usize": "usize", "u64": "u64"}
+# What a parameter of a proved entry is in C and in Rust: a slice is a pointer and a length, and where a page or a writer's file is lent to be filled the
+# length is called its room.
+LENGTHS = {"page": "room"}
+WRITERS_LENGTHS = {"file": "room"}
+C_TYPES = {
+    "&[u8]": "const uint8_t *{}",
+    "&mut [u8]": "uint8_t *{}",
+    "&[u8; 17]": "const uint8_t {}[17]",
+    "&mut [u32; 2]": "uint32_t {}[2]",
+    "u8": "uint8_t {}",
+    "usize": "size_t {}",
+    "u64": "uint64_t {}",
+}
+RUST_TYPES = {
+    "&[u8]": "*const u8",
+    "&mut [u8]": "*mut u8",
+    "&[u8; 17]": "*const [u8; 17]",
+    "&mut [u32; 2]": "*mut [u32; 2]",
+    "u8": "u8",
+    "usize": "usize",
+    "u64": "u64",
+}
 
 
 def entries(source=PROVED):
     """The name, the parameters and the return type of each entry with a C name."""
-    found = re.findall(r'#\[no_mangle\]\npub extern "C" fn (\w+)\((.*?)\) -> (\w+)\n', source)
-    return [(name, [each.split(": ") for each in parameters.split(", ")], kind) for name, parameters, kind in found]
+    found = re.findall(r'#\[no_mangle\]\npub extern "C" fn (\w+)\((.*?)\) -> (\w+)\n', source, re.S)
+    return [(name, [each.split(": ") for each in one_line(parameters).split(", ")], kind) for name, parameters, kind in found]
 
 
-def flat(parameters):
+def one_line(text):
+    """A list that may be broken into lines, with a comma behind its last part."""
+    return " ".join(text.split()).replace("( ", "(").replace(", )", ")").strip(", ")
+
+
+def flat(entry, parameters):
     """The parameters one by one, each slice followed by its length."""
+    lengths = WRITERS_LENGTHS if entry == "hazomeny_write" else LENGTHS
     for name, kind in parameters:
         yield name, kind
         if "[u8]" in kind:
-            yield LENGTHS[name], "usize"
+            yield lengths.get(name, "length"), "usize"
 
 
 def in_c(name, parameters, kind):
-    return f"{C_TYPES[kind]} {name}({', '.join(C_TYPES[kind] + each for each, kind in flat(parameters))});"
+    listed = ", ".join(C_TYPES[of].format(each) for each, of in flat(name, parameters))
+    return f"{C_TYPES[kind].format(name)}({listed});"
 
 
 def in_rust(name, parameters, kind):
-    return f"pub fn {name}({', '.join(f'{each}: {RUST_TYPES[kind]}' for each, kind in flat(parameters))}) -> {RUST_TYPES[kind]};"
+    listed = ", ".join(f"{each}: {RUST_TYPES[of]}" for each, of in flat(name, parameters))
+    return f"pub fn {name}({listed}) -> {RUST_TYPES[kind]};"
 
 
 def declared_in_c(header):
-    return [" ".join(each.split()) for each in re.findall(r"^\w[\w ]*\bhazomeny_\w+\([^)]*\);", header, re.M)]
+    return [one_line(each) for each in re.findall(r"^\w[\w ]*\bhazomeny_\w+\([^)]*\);", header, re.M)]
 
 
 def declared_in_rust(source):
-    found = re.findall(r"\bpub fn hazomeny_\w+\([^)]*\)(?: -> \w+)?;", source)
-    return [" ".join(each.split()).replace("( ", "(").replace(", )", ")") for each in found]
+    return [one_line(each) for each in re.findall(r"\bpub fn hazomeny_\w+\([^)]*\)(?: -> \w+)?;", source)]
 
 
 def numbered(pattern, source):
@@ -68,11 +97,68 @@ def constants(source):
 
 
 def limits_in_c(header):
-    return numbered(r"\bHAZOMENY_(\w+) = (\d+)\b", header)
+    return numbered(r"\bHAZOMENY_(?!STEP_)(\w+) = (\d+)\b", header)
 
 
 def limits_in_rules(definitions):
     return numbered(r"^([a-z-]+) = ([\d_]+)$", definitions)
+
+
+def steps_in_c(header):
+    return numbered(r"\bHAZOMENY_STEP_(\w+) = (\d+)\b", header)
+
+
+def steps_in_rust(source):
+    """The cases of an enumeration, each of its words with a capital."""
+    cases = re.findall(r"^    (\w+) = (\d+),$", source, re.M)
+    return {re.sub(r"(?<!^)(?=[A-Z])", "_", name).upper(): int(number) for name, number in cases}
+
+
+def named_in_c(header):
+    """The step that each function of the header makes, by the function's name."""
+    found = re.findall(r"^static inline uint64_t hazomeny_(\w+)\([^{]*\{\s*return hazomeny_step\w*\(writer, HAZOMENY_STEP_(\w+)[,)]", header, re.M)
+    return {re.sub(r"^write_", "", name).upper(): step for name, step in found}
+
+
+def style_in_c(header):
+    """Where each member of the struct begins; the bytes of all stand behind the last."""
+    members = re.findall(r"^    uint8_t (\w+)(?:\[(\d)\])?;", header, re.M)
+    places, at = {}, 0
+    for name, count in members:
+        places[name.upper()] = at
+        at += int(count or 1)
+    return dict(places, STYLE_BYTES=at)
+
+
+def style_in_rust(source):
+    return numbered(r"^ *pub(?:\(crate\))? const (\w+): usize = (\d+);", source)
+
+
+class Steps(unittest.TestCase):
+    """What the header and the crate name alike; that the numbers are the library's, their tests show."""
+
+    def test_the_numbers(self):
+        self.assertEqual(steps_in_c(HEADER), steps_in_rust(STEPS))
+        self.assertEqual(sorted(steps_in_c(HEADER).values()), list(range(20)))
+
+    def test_the_functions(self):
+        self.assertEqual(named_in_c(HEADER), {name: name for name in steps_in_c(HEADER)})
+
+    def test_a_style(self):
+        self.assertEqual(style_in_c(HEADER), style_in_rust(STYLE))
+        self.assertEqual(style_in_c(HEADER)["STYLE_BYTES"], 17)
+
+    def test_mistakes_are_found(self):
+        for found, source, was, wrong in [
+            (steps_in_c, HEADER, "STEP_CLOSE_BLOCK = 9", "STEP_CLOSE_BLOCK = 11"),
+            (steps_in_rust, STEPS, "NextEntry = 16", "NextEntry = 17"),
+            (named_in_c, HEADER, "return hazomeny_step(writer, HAZOMENY_STEP_CLOSE_ANCHOR)", "return hazomeny_step(writer, HAZOMENY_STEP_CLOSE_BLOCK)"),
+            (style_in_c, HEADER, "    uint8_t has_size;\n", ""),
+            (style_in_rust, STYLE, "SUBSCRIPT: usize = 14", "SUBSCRIPT: usize = 15"),
+        ]:
+            with self.subTest(wrong):
+                self.assertIn(was, source)
+                self.assertNotEqual(found(source.replace(was, wrong, 1)), found(source))
 
 
 class Limits(unittest.TestCase):
@@ -105,8 +191,9 @@ class Limits(unittest.TestCase):
 
 
 class Prototypes(unittest.TestCase):
-    def test_there_are_five(self):
-        self.assertEqual([name for name, _, _ in entries()], [f"hazomeny_{each}" for each in ("check", "layout", "plain", "html_body", "html_document")])
+    def test_there_are_six(self):
+        right = ("check", "layout", "plain", "html_body", "html_document", "write")
+        self.assertEqual([name for name, _, _ in entries()], [f"hazomeny_{each}" for each in right])
 
     def test_the_header(self):
         self.assertEqual(declared_in_c(HEADER), [in_c(*each) for each in entries()])
@@ -121,8 +208,12 @@ class Prototypes(unittest.TestCase):
             (declared_in_c, HEADER, in_c, "size_t length, uint8_t *page, size_t room", "size_t room, uint8_t *page, size_t length"),
             (declared_in_c, HEADER, in_c, "uint64_t hazomeny_check", "uint32_t hazomeny_check"),
             (declared_in_c, HEADER, in_c, "size_t width);", "uint32_t width);"),
+            (declared_in_c, HEADER, in_c, "uint32_t state[2], ", "uint32_t state[3], "),
+            (declared_in_c, HEADER, in_c, "const uint8_t style[17]", "const uint8_t *style"),
             (declared_in_rust, RUST, in_rust, "length: usize, width: usize", "width: usize, length: usize"),
             (declared_in_rust, RUST, in_rust, "width: usize) -> u64;", "width: usize) -> u32;"),
+            (declared_in_rust, RUST, in_rust, "style: *const [u8; 17]", "style: *const [u8; 16]"),
+            (declared_in_rust, RUST, in_rust, "step: u8", "step: u32"),
         ]
         for declared, source, right, was, wrong in mistakes:
             with self.subTest(wrong):

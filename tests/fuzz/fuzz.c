@@ -3,15 +3,8 @@
  * be written either. So whatever is read or written beside what was lent stops the run, as do answers that are not as include/hazomeny.h
  * says. SEEDS are fragment files, and request batches of tests/recorded; the file of a finding is written to FINDING. */
 #define _DEFAULT_SOURCE
+#include "guards.h"
 #include "hazomeny.h"
-#include <setjmp.h>
-#include <signal.h>
-#include <stdio.h>
-#include <stdlib.h>
-#include <string.h>
-#include <sys/mman.h>
-#include <time.h>
-#include <unistd.h>
 
 enum {
     MOST_FILE = 66000,  /* longer than any that is accepted */
@@ -20,8 +13,7 @@ enum {
     MOST_DEPTH = 80,    /* fields around a field, as far as they are looked for */
     HEADER = 3,
     WIDEST = 6553,
-    PATTERN = 0xa5, /* what a page is lent filled with */
-    PATIENCE = 60   /* seconds after which an entry has not ended */
+    PATTERN = 0xa5 /* what a page is lent filled with */
 };
 
 /* ---- the file that is tried, and where things are said about it ---- */
@@ -48,32 +40,6 @@ static void finding(const char *why) {
     }
     exit(1);
 }
-
-/* An entry that was stopped by a signal is told of outside of the handler, where all may be called. */
-static sigjmp_buf stopped;
-
-static void on_signal(int number) { siglongjmp(stopped, number); }
-
-static void stop(const char *why) {
-    fprintf(stderr, "fuzz: %s\n", why);
-    exit(2);
-}
-
-/* ---- random numbers (splitmix64) ---- */
-
-static uint64_t state;
-
-static uint64_t bits(void) {
-    uint64_t z = state += 0x9e3779b97f4a7c15u;
-    z = (z ^ z >> 30) * 0xbf58476d1ce4e5b9u;
-    z = (z ^ z >> 27) * 0x94d049bb133111ebu;
-    return z ^ z >> 31;
-}
-
-/* Below a bound that is not 0. */
-static size_t below(size_t bound) { return (size_t)(bits() % bound); }
-
-static int one_in(size_t times) { return below(times) == 0; }
 
 /* ---- files to start from ---- */
 
@@ -267,26 +233,10 @@ static void next_file(void) {
 
 /* ---- lending ---- */
 
-/* Memory between two pages that may not be touched. */
-struct region {
-    uint8_t *start, *end;
-};
-
 /* The two ways of lending: flush behind a guard, and flush before one. */
 static struct {
-    const char *where;
     struct region files, pages;
-} ways[2] = {{.where = "behind"}, {.where = "before"}};
-
-static struct region guarded(size_t size) {
-    size_t page = (size_t)sysconf(_SC_PAGESIZE);
-    size = (size + page - 1) / page * page;
-    uint8_t *all = mmap(NULL, size + 2 * page, PROT_NONE, MAP_PRIVATE | MAP_ANONYMOUS, -1, 0);
-    if (all == MAP_FAILED || mprotect(all + page, size, PROT_READ | PROT_WRITE)) stop("no memory");
-    return (struct region){all + page, all + page + size};
-}
-
-static uint8_t *lent(int way, struct region region, size_t count) { return way == 0 ? region.start : region.end - count; }
+} ways[2];
 
 static uint8_t *lent_file(int way) { return lent(way, ways[way].files, length); }
 
@@ -324,7 +274,7 @@ static void note(uint64_t answer, unsigned beside) {
 
 static void begin(const char *entry, int way, size_t width, size_t room) {
     now.entry = entry;
-    now.where = ways[way].where;
+    now.where = where_lent[way];
     now.width = width;
     now.room = room;
 }
@@ -469,7 +419,7 @@ static void make_room(void) {
 
 int main(int count, char **words) {
     if (count < 5) stop("usage: fuzz SEED SECONDS FINDING SEEDS..");
-    state = seed = strtoull(words[1], NULL, 10);
+    seed = seeded(words[1]);
     const time_t end = time(NULL) + atol(words[2]);
     finding_path = words[3];
     for (int i = 4; i < count; i++) read_seeds(words[i]);
@@ -478,10 +428,8 @@ int main(int count, char **words) {
     printf("fuzz: seed %llu, %zu files to start from\n", (unsigned long long)seed, firm);
     fflush(stdout);
     int number = sigsetjmp(stopped, 1);
-    if (number) finding(number == SIGALRM ? "an entry does not end" : "an entry touched what it was not lent");
-    signal(SIGSEGV, on_signal);
-    signal(SIGBUS, on_signal);
-    signal(SIGALRM, on_signal);
+    if (number) finding(stopped_by(number));
+    catch_signals();
     for (; time(NULL) < end; files++) {
         next_file();
         try_file();

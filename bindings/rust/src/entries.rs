@@ -1,39 +1,7 @@
 //! The five entries on slices, and the three pages appended to a vector.
 
+use crate::c::{self, answer};
 use crate::{Refusal, HTML_FRAME, HTML_PER_BYTE, MOST_BYTES, PLAIN_PER_BYTE};
-
-/// The C names of the proved library; `include/hazomeny.h` says what each does.
-mod c {
-    extern "C" {
-        pub fn hazomeny_check(file: *const u8, length: usize) -> u64;
-        pub fn hazomeny_layout(file: *mut u8, length: usize, width: usize) -> u64;
-        pub fn hazomeny_plain(file: *const u8, length: usize, page: *mut u8, room: usize) -> u64;
-        pub fn hazomeny_html_body(
-            file: *const u8,
-            length: usize,
-            page: *mut u8,
-            room: usize,
-        ) -> u64;
-        pub fn hazomeny_html_document(
-            file: *const u8,
-            length: usize,
-            page: *mut u8,
-            room: usize,
-        ) -> u64;
-    }
-}
-
-/// Takes an answer's one number apart: the low byte is the refusal's number or 0, above it stands the count or the place.
-fn answer(coded: u64) -> Result<usize, Refusal> {
-    let above = (coded >> 8) as usize;
-    match coded as u8 {
-        0 => Ok(above),
-        number => Err(Refusal {
-            number,
-            place: above,
-        }),
-    }
-}
 
 /// The file check: `Ok(0)`, or the first fault.
 ///

@@ -1,21 +1,24 @@
 //! A printer of shader listings that is proved, not only tested, to do what its rules say.
 //!
-//! It lays a fragment file out at a width, in place, and prints it as a plain page or as HTML. Every function is total and terminates, for any
-//! file, width and page buffer. What it does not accept it refuses by number and place ([`Refusal`]); a refusal changes no byte.
-//! `docs/FORMAT.md` of the repository describes the file format, the layout, the pages and the refusals.
+//! It lays a fragment file out at a width, in place, and prints it as a plain page or as HTML; and it writes such files, step by step
+//! ([`Writer`]). Every function is total and terminates, for any file, width, page buffer and step. What it does not accept it refuses by number
+//! and place ([`Refusal`]); a refusal changes no byte. `docs/FORMAT.md` of the repository describes the file format, the layout, the pages, the
+//! writer and the refusals.
 //!
 //! ```
-//! // `f(a, b)`: a text, a block that breaks where it does not fit, a text
-//! let file = b"\x01\0\x05\x11\0\x02f(\x04\0\x22\
-//!     \x08\0\x11\x01\0\x04\x11\0\x01a\x01\0\x04\x11\0\x01,\x05\0\0\
-//!     \x08\0\x0b\x01\0\x04\x11\0\x01b\x07\0\x01,\
-//!     \x01\0\x04\x11\0\x01)";
-//! let mut laid_out = file.to_vec();
-//! assert_eq!(hazomeny::layout_file(&mut laid_out, 7)?, 0);
-//! assert_eq!(hazomeny::layout_file(&mut laid_out, 6)?, 1);
+//! // `f(a, b)`: entries between a prefix and a suffix, on lines of their own where they do not fit
+//! let mut w = hazomeny::Writer::growing(Vec::new());
+//! w.join_comma_sep("f(", ")", |arguments| {
+//!     arguments.entry(|w| w.text("a"))?;
+//!     arguments.entry(|w| w.text("b"))
+//! })?;
+//! let mut file = w.finish()?;
+//!
+//! assert_eq!(hazomeny::layout_file(&mut file, 7)?, 0);
+//! assert_eq!(hazomeny::layout_file(&mut file, 6)?, 1);
 //!
 //! let mut page = Vec::new();
-//! hazomeny::append_plain_page(&laid_out, &mut page)?;
+//! hazomeny::append_plain_page(&file, &mut page)?;
 //! assert_eq!(page, b"f(\n  a,\n  b,\n)");
 //! # Ok::<(), hazomeny::Refusal>(())
 //! ```
@@ -29,11 +32,17 @@
 #![deny(missing_docs)]
 #![deny(unsafe_op_in_unsafe_fn)]
 
+mod c;
 mod entries;
 mod limits;
 mod refusal;
+mod step;
+mod style;
+mod writer;
 
 pub use entries::{append_html_body, append_html_document, append_plain_page};
 pub use entries::{check_file, html_body, html_document, layout_file, plain_page};
 pub use limits::{HTML_FRAME, HTML_PER_BYTE, MOST_BYTES, MOST_COLUMNS, PLAIN_PER_BYTE};
 pub use refusal::Refusal;
+pub use style::{Style, Text};
+pub use writer::{Buffer, Entries, Writer};

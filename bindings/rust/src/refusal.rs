@@ -1,24 +1,29 @@
-//! Why an entry refused, by number and place.
+//! Why an entry or a writer refused, by number and place.
 
 use std::error::Error;
 use std::fmt;
 
 /// A refusal: its number and the place that goes with it. `docs/FORMAT.md` lists them.
 ///
-/// A refusal changes no byte of what was lent.
+/// A refusal changes no byte of what was lent. A [`Writer`](crate::Writer) refuses with 1 and 6 to 11: what it wrote before stays, and the next
+/// step may be another, or the same once more.
 #[derive(Clone, Copy, Debug, PartialEq, Eq, Hash)]
 pub struct Refusal {
-    /// 1 to 10.
+    /// 1 to 11.
     pub number: u8,
-    /// The byte of the file where the fault stands; for [`Refusal::PAGE_TOO_SHORT`] the bytes that the page needs.
+    /// The byte of the file where the fault stands. Of a writer's step it is where the step would have begun to write; for
+    /// [`Refusal::PAGE_TOO_SHORT`] it is the bytes that the page needs, or the file with the step in it.
     pub place: usize,
 }
 
 impl Refusal {
-    /// The number of the one refusal that is not about the file or the width: the page buffer is shorter than the page.
+    /// The number of the one refusal that is about the buffer alone: it is shorter than the page, or than a writer's file with the step in it.
     pub const PAGE_TOO_SHORT: u8 = 10;
 
-    /// What the number means.
+    /// The number of a writer's refusal of a step that is not allowed where it stands, such as the end of a block while an anchor is open.
+    pub const OUT_OF_PLACE: u8 = 11;
+
+    /// What the number means. Of a writer's step it speaks of the file as it would be with the step in it.
     pub fn meaning(&self) -> &'static str {
         match self.number {
             1 => "the file is longer than 60,000 bytes",
@@ -30,12 +35,13 @@ impl Refusal {
             7 => "not UTF-8",
             8 => "a style that is not allowed",
             9 => "quote in an anchor's name",
-            Self::PAGE_TOO_SHORT => "the page needs so many bytes",
+            Self::PAGE_TOO_SHORT => "the buffer needs so many bytes",
+            Self::OUT_OF_PLACE => "a step that is not allowed there",
             _ => "no refusal of this library",
         }
     }
 
-    /// The bytes that the page needs, where that is why it was refused.
+    /// The bytes that the page needs, or a writer's file with the step in it, where that is why it was refused.
     pub fn bytes_needed(&self) -> Option<usize> {
         (self.number == Self::PAGE_TOO_SHORT).then_some(self.place)
     }

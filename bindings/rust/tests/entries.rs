@@ -298,6 +298,6 @@ fn a_refusal_says_what_it_is() {
     assert_eq!(short.bytes_needed(), Some(7));
     assert_eq!(
         short.to_string(),
-        "refused 10 at 7: the page needs so many bytes"
+        "refused 10 at 7: the buffer needs so many bytes"
     );
 }

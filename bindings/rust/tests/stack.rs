@@ -1,4 +1,4 @@
-//! The entries on a small stack: 256 KiB hold the deepest files.
+//! The entries and the writer on a small stack: 256 KiB hold the deepest files.
 
 use hazomeny::*;
 use std::thread;
@@ -90,6 +90,25 @@ fn a_long_file_as_deep() {
     let file = deepest(4, long());
     assert!((59_800..=LONGEST_FILE).contains(&file.len()));
     on_a_small_stack(|| all_entries(file));
+}
+
+/// The same as [`deepest`] without nodes, by steps.
+fn write_deepest() -> Result<Vec<u8>, Refusal> {
+    let mut w = Writer::growing(Vec::new());
+    for _ in 0..MOST_BLOCKS {
+        w.open_inline_or_indented_block()?;
+        w.open_fragment()?;
+    }
+    for _ in 0..MOST_BLOCKS {
+        w.close_fragment()?;
+        w.close_block()?;
+    }
+    w.finish()
+}
+
+#[test]
+fn the_deepest_file_is_written() {
+    on_a_small_stack(|| assert_eq!(write_deepest(), Ok(deepest(4, Vec::new()))));
 }
 
 #[test]
