@@ -130,7 +130,8 @@ enum {
     HAZOMENY_STEP_FINISH = 19
 };
 
-/* One step of a writer, by its number. Style and text are looked at only by the steps that take them. The functions below name the steps. */
+/* One step of a writer, by its number. At every step `style` points to 17 bytes that can be read; text is looked at only by the steps that take
+ * one. The functions below name the steps. */
 uint64_t hazomeny_write(uint8_t *file, size_t room, uint32_t state[2], uint8_t step, const uint8_t style[17], const uint8_t *text,
                         size_t length);
 

@@ -1,6 +1,6 @@
 /* Fuzzes the writer of libhazomeny.a: `steps SEED SECONDS FINDING` makes random steps, on new writers and on states that no writer has. Buffer,
- * state, style and text are lent twice: flush before memory that may not be touched, and flush behind such; a style or a text that a step does
- * not take is such memory itself. So whatever is read or written beside what was lent stops the run, as do answers that are not as
+ * state, style and text are lent twice: flush before memory that may not be touched, and flush behind such; a text that a step does not take is such
+ * memory itself. So whatever is read or written beside what was lent stops the run, as do answers that are not as
  * include/hazomeny.h says. The buffer before the step of a finding is written to FINDING. */
 #define _DEFAULT_SOURCE
 #include "guards.h"
@@ -197,15 +197,14 @@ struct left {
 static struct left made(int way) {
     uint8_t *lent_file = lent(way, ways[way].file, room), *lent_state = lent(way, ways[way].state, STATE);
     uint8_t *style = lent(way, ways[way].style, STYLE), *text = lent(way, ways[way].text, call.length);
-    int styled = takes_style(call.step), texted = takes_text(call.step);
+    int texted = takes_text(call.step);
     struct left left = {.file = lent_file};
     where = where_lent[way];
     memcpy(lent_file, file, room);
     memcpy(lent_state, state, STATE);
     memcpy(style, call.style, STYLE);
     memcpy(text, call.text, call.length);
-    left.answer = hazomeny_write(lent_file, room, (uint32_t *)(void *)lent_state, call.step, styled ? style : untouchable, texted ? text : untouchable,
-                                 call.length);
+    left.answer = hazomeny_write(lent_file, room, (uint32_t *)(void *)lent_state, call.step, style, texted ? text : untouchable, call.length);
     memcpy(left.state, lent_state, STATE);
     demand(memcmp(style, call.style, STYLE) == 0 && memcmp(text, call.text, call.length) == 0, "a step that changed its style or text");
     return left;
