@@ -2,6 +2,7 @@
 -- second outcome satisfies one.
 pub mod Fits
 pub mod WriteLaws
+pub mod WrittenInC
 pub mod Written
 pub mod Demand3
 pub mod EveryWidth

@@ -9,13 +9,14 @@ use Rattle.rules.specs.Answers.{tree}
 use Rattle.rules.proofs.Chains.{no-path, bind-inv}
 use Rattle.rules.proofs.Files.{tree-read}
 use Rattle.scripts.specs.Joins.{_⧺_, join-space, join-comma-sep}
-use Rattle.scripts.specs.Script.{Nodes, node, spaced-join, comma-join, Header, Entries, onto, node-onto, header-tree, entries-onto, tree-of, text-node, root, Open, in-fragment, start, depth}
+use Rattle.scripts.specs.Script.{Nodes, node, spaced-join, comma-join, Header, Entries, onto, node-onto, header-tree, entries-onto, tree-of, text-node, root, Open, in-fragment, in-anchor, between, begun, start, depth}
 use Rattle.scripts.specs.Shown.{nodes-bytes, front-of, shown, top-of}
 use Rattle.scripts.specs.Steps.{steps, finish}
 use Rattle.scripts.specs.ReadOff.{steps-of}
 use Rattle.scripts.specs.Telling.{told-nodes}
 use Rattle.scripts.proofs.BytesLaws.{tree-more}
-use Rattle.scripts.proofs.Told.{finished-told}
+use Rattle.scripts.proofs.Ways.{finish-inv}
+use Rattle.scripts.proofs.Told.{finished-told, any-room}
 use Rattle.scripts.proofs.Accepted.{finished-accepted}
 use Rattle.scripts.proofs.Back.{steps-back, read-off-formed}
 use Rattle.moves.specs.declared.Answer.{Answer}
@@ -39,8 +40,9 @@ use Rattle.moves.proofs.CallsOf.{script-formed, script-back, calls-back
 pub record Finished (b : List ℕ) (cs : List Call) (h : Held) (n : ℕ) : Type 0 where
   -- the answer is the write position
   pub answer-is : n ≡ h .at
-  -- nodes whose telling is the calls' script
+  -- the nodes that the calls' script asks for, step by step, and whose telling it is
   pub nodes : Nodes
+  pub asked-for : steps (length b) (script cs) start ≡ accepted (in-fragment root nodes)
   pub telling : told-nodes nodes ≡ script cs
   -- the bytes in front of it are an accepted file, of the tree that the nodes are
   pub read : tree (take n (h .bytes)) ≡ accepted (tree-of nodes)
@@ -57,6 +59,7 @@ finished-at b cs t st v n z e k l f =
     record {
       answer-is = sym p;
       nodes = m;
+      asked-for = e ∙ ap accepted (finish-inv t m g);
       telling = finished-told (length b) (script cs) t m e g;
       read = rw (take-at (shown t) (drop (length (shown t)) b) n p) (finished-accepted (length b) (script cs) t m (script-formed cs z) e g);
       later = drop-later (shown t) b n (omega arith);
@@ -72,6 +75,19 @@ finished-file b cs h st v n z e =
     let r = calls-ran b cs start start-fits (no-room b) h (rw (fresh-held b) at e) in
     subst⁻¹ (λ (g : Held). stepped op.Finish st v (g .bytes) (g .at) (g .top) .answer ≡ accepted n → Finished b cs g n) (r .held-is)
     (finished-at b cs (r .state) st v n z (r .by-steps) (r .fits) (r .roomy))
+
+-- ---- THE TREE IS A FUNCTION OF THE CALLS' SCRIPT: whatever the buffers, one script's files are of one tree
+
+in-root : Open → Nodes
+in-root (in-fragment a n) = n
+in-root (in-anchor a n d v rs) = n
+in-root (between a n k es) = n
+in-root (begun a n j h) = n
+
+pub one-tree : {b b′ : List ℕ} {cs ds : List Call} {h h′ : Held} {n n′ : ℕ} (F : Finished b cs h n) (G : Finished b′ ds h′ n′) → script cs ≡ script ds → F .nodes ≡ G .nodes
+unfolding in-root
+one-tree {b} {b′} {cs} F G e =
+    ap in-root (any-room (length b) (length b′) (script cs) start (in-fragment root (F .nodes)) (in-fragment root (G .nodes)) (F .asked-for) (rw e (G .asked-for)))
 
 -- ---- THE CALLS READ OFF AN ACCEPTED FILE WRITE IT AGAIN, in any buffer that holds it
 

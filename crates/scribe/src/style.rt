@@ -3,33 +3,11 @@ use crate::put::put_field;
 use crate::put::put_header;
 use moves::Style;
 ghost use mathlib.Core.Path.{_≡_};
-ghost use mathlib.Core.Option.{none};
-ghost use mathlib.Core.List.{[], _∷_};
 ghost use Prim.Native.Nat.{_<_, _≤_};
 ghost use lib.ListN.{length};
 ghost use Rattle.scripts.specs.Shown.{run-bytes};
 ghost use Rattle.writing.specs.Written.{Written};
-ghost use Rattle.moves.specs.Style.{style-of, style-bytes, style-size, style-part, part, part-size, run, value-parts, flag-parts};
-
-// No style.
-pub fn unstyled() -> Style
-    ensures { λ r. ⌜ style-of r ≡ none ⌝ }
-{
-    Style {
-        styled: false,
-        has_colour: false,
-        colour: [0, 0, 0],
-        has_opacity: false,
-        opacity: [0, 0, 0, 0],
-        has_thickness: false,
-        thickness: 0,
-        has_size: false,
-        size: 0,
-        subscript: false,
-        superscript: false,
-        dim: false,
-    }
-}
+ghost use Rattle.moves.specs.Style.{style-bytes, style-size, style-part, part, part-size, run, value-parts, flag-parts};
 
 // The bytes of a field that is there or not.
 fn part_size(there: bool, v: &[u8]) -> usize
