@@ -78,7 +78,8 @@ fn put_text(
     }
 }
 
-fn style(styles: &Styles) -> Style {
+/// What the original's styles are to the writer.
+pub fn style(styles: &Styles) -> Style {
     let mut style = Style::new();
     if let Some(colour) = styles.color {
         style = style.colour(colour);

@@ -3,6 +3,7 @@
 use hazomeny::{Refusal, Style, Writer};
 use oracle::print::pretty::{Fragment, Node, Styles};
 use oracle::tags::*;
+use oracle::{lister, tree};
 use std::borrow::Cow;
 use std::{iter, slice, str};
 
@@ -118,7 +119,7 @@ fn fragments(steps: &mut slice::Iter<Step<Styles>>) -> Vec<Fragment> {
 /// The step as the library takes it.
 fn ours(step: &Step<Styles>) -> Step<Style> {
     match *step {
-        Step::Text(styles, text) => Step::Text(styles.map(our_style), text),
+        Step::Text(styles, text) => Step::Text(styles.as_ref().map(lister::style), text),
         Step::BreakingOnlySpace => Step::BreakingOnlySpace,
         Step::ForceLineSeparation => Step::ForceLineSeparation,
         Step::IfBlockLayout(text) => Step::IfBlockLayout(text),
@@ -129,32 +130,6 @@ fn ours(step: &Step<Styles>) -> Step<Style> {
         Step::OpenFragment => Step::OpenFragment,
         Step::CloseFragment => Step::CloseFragment,
     }
-}
-
-fn our_style(styles: Styles) -> Style {
-    let mut style = Style::new();
-    if let Some(colour) = styles.color {
-        style = style.colour(colour);
-    }
-    if let Some(opacity) = styles.color_opacity {
-        style = style.opacity(opacity);
-    }
-    if let Some(thickness) = styles.thickness {
-        style = style.thickness(thickness);
-    }
-    if let Some(size) = styles.size {
-        style = style.size(size);
-    }
-    if styles.subscript {
-        style = style.subscript();
-    }
-    if styles.superscript {
-        style = style.superscript();
-    }
-    if styles.desaturate_and_dim_for_unchanged_multiversion_line {
-        style = style.dim();
-    }
-    style
 }
 
 /// The fields of an accepted value, one after the other.
@@ -211,27 +186,9 @@ fn read_text(value: &'static [u8]) -> Step<Styles> {
     let (mut styles, mut text) = (None, "");
     for (tag, value) in fields(value) {
         match tag {
-            STYLES => styles = Some(read_styles(value)),
+            STYLES => styles = Some(tree::styles(value)),
             _ => text = utf8(value),
         }
     }
     Step::Text(styles, text)
-}
-
-fn read_styles(value: &'static [u8]) -> Styles {
-    let mut styles = Styles::default();
-    for (tag, value) in fields(value) {
-        match (tag, value) {
-            (COLOUR, &[r, g, b]) => styles.color = Some([r, g, b]),
-            (OPACITY, &[a, b, c, d]) => {
-                styles.color_opacity = Some(f32::from_bits(u32::from_be_bytes([a, b, c, d])));
-            }
-            (THICKNESS, &[thickness]) => styles.thickness = Some(thickness as i8),
-            (SIZE, &[size]) => styles.size = Some(size as i8),
-            (SUBSCRIPT, _) => styles.subscript = true,
-            (SUPERSCRIPT, _) => styles.superscript = true,
-            _ => styles.desaturate_and_dim_for_unchanged_multiversion_line = true,
-        }
-    }
-    styles
 }
