@@ -1,11 +1,16 @@
 -- The writer's C name, and the promises over `moves`' contract: each call by numbers is one call there.
-use Rattle.rules.proofs.Basics.{_≡_, refl, sym, ap, _∙_, List, [], _∷_, ℕ, _+_, _*_, _≤_, arith, le-leb, length, getD, set}
+use Rattle.rules.proofs.Basics.{_≡_, refl, sym, ap, _∙_, List, [], _∷_, Bool, true, false, ℕ, _+_, _*_, _≤_, arith, le-leb, length, getD, set}
 use Rattle.rules.proofs.Chains.{no-path}
-use Rattle.rules.specs.Result.{Result, refused, accepted}
-use Rattle.rules.specs.Answers.{coded}
-use Rattle.moves.specs.Stepped.{Written, State, left, answered, stepped}
+use Rattle.rules.specs.Result.{Result, refused, accepted, _>>_, need, Check, _or-refuse_, sound}
+use Rattle.rules.specs.Answers.{coded, decoded}
+use Rattle.rules.proofs.Unique as unique
+use Rattle.moves.specs.declared.Op.{Op}
+use Rattle.moves.specs.declared.Style.{Style}
+use Rattle.moves.specs.Plans.{plan-checks}
+use Rattle.moves.specs.Stepped.{Written, State, left, fitting, planned, answered, stepped}
 use Rattle.moves.specs.Asked.{Call, Held, held-after, called}
 use Rattle.moves.specs.ReadOff.{Sized}
+use Rattle.scribe.proofs.CheckLaws.{Numbered, plan-numbered}
 use Rattle.scribe.specs.InC.{numbered, style-in, last-step, Left, left-by, left-in-c, write-in-c, Leaves}
 
 -- NO SECOND OUTCOME SATISFIES THE CONTRACT
@@ -55,3 +60,35 @@ refused-in-c n style text h k p l e = as-step n style text h l ∙ go (answered 
         → left-by (left (h .bytes) (h .at) (h .top) x) (numbers h) ≡ record { answer = p * 256 + k; bytes = h .bytes; numbers = numbers h }
     go (refused j o) q = ap (in-place h) q
     go (accepted x) q = no-path (cc)
+
+-- ---- THE ANSWER'S NUMBER SAYS THE ANSWER: a refusal's number is one of 1 to 255
+
+abbrev Told : Result Written → Type 0
+Told (refused n p) = (1 ≤ n) × (n ≤ 255)
+Told (accepted x) = Unit {0}
+
+need-told : (t : Bool) (n p : ℕ) (r : Result Written) → (1 ≤ n) × (n ≤ 255) → Told r → Told (need t n p >> r)
+unfolding need _>>_
+need-told true n p r h k = k
+need-told false n p r h k = h
+
+sound-told : (cs : List Check) (p : ℕ) (r : Result Written) → Numbered cs → Told r → Told (sound cs p >> r)
+unfolding sound need _>>_
+sound-told [] p r h k = k
+sound-told (true or-refuse n ∷ cs) p r h k = sound-told cs p r (h .2) k
+sound-told (false or-refuse n ∷ cs) p r h k = (omega (arith, h .0), omega (arith, h .1))
+
+answer-told : (op : Op) (st : Style) (v b : List ℕ) (at top : ℕ) → unique.Numbered (stepped op st v b at top .answer)
+unfolding stepped answered planned fitting left
+answer-told op st v b at top =
+    in-left _ (need-told _ 11 at _ (omega arith, omega arith) (need-told _ 11 at _ (omega arith, omega arith) (sound-told (plan-checks _ st v) at _ (plan-numbered _ st v)
+    (need-told _ 1 at _ (omega arith, omega arith) (need-told _ 10 _ _ (omega arith, omega arith) tt)))))
+  where
+    in-left : (x : Result Written) → Told x → unique.Numbered (left b at top x .answer)
+    in-left (refused n p) h = h
+    in-left (accepted x) h = tt
+
+pub write-said-in-c : (n : ℕ) (style text : List ℕ) (h : Held) → n ≤ last-step
+    → decoded (write-in-c n style text (h .bytes) (numbers h) .answer) ≡ stepped (numbered n) (style-in style) text (h .bytes) (h .at) (h .top) .answer
+unfolding left-by
+write-said-in-c n style text h l = ap (λ (x : Left). decoded (x .answer)) (as-step n style text h l) ∙ unique.coded-back _ (answer-told (numbered n) (style-in style) text (h .bytes) (h .at) (h .top))
