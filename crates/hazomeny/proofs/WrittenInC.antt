@@ -63,30 +63,37 @@ refused-in-c n style text h k p l e = as-step n style text h l ∙ go (answered 
 
 -- ---- THE ANSWER'S NUMBER SAYS THE ANSWER: a refusal's number is one of 1 to 255
 
-abbrev Told : Result Written → Type 0
-Told (refused n p) = (1 ≤ n) × (n ≤ 255)
-Told (accepted x) = Unit {0}
+abbrev Right : Result Written → Type 0
+Right (refused n p) = (1 ≤ n) × (n ≤ 255)
+Right (accepted x) = Unit {0}
+
+record Told (x : Result Written) : Type 0 where
+  right : Right x
 
 need-told : (t : Bool) (n p : ℕ) (r : Result Written) → (1 ≤ n) × (n ≤ 255) → Told r → Told (need t n p >> r)
 unfolding need _>>_
 need-told true n p r h k = k
-need-told false n p r h k = h
+need-told false n p r h k = record { right = h }
 
 sound-told : (cs : List Check) (p : ℕ) (r : Result Written) → Numbered cs → Told r → Told (sound cs p >> r)
 unfolding sound need _>>_
 sound-told [] p r h k = k
 sound-told (true or-refuse n ∷ cs) p r h k = sound-told cs p r (h .2) k
-sound-told (false or-refuse n ∷ cs) p r h k = (omega (arith, h .0), omega (arith, h .1))
+sound-told (false or-refuse n ∷ cs) p r h k = record { right = (omega (arith, h .0), omega (arith, h .1)) }
+
+answered-told : (op : Op) (st : Style) (v b : List ℕ) (at top : ℕ) → Told (answered op st v b at top)
+unfolding answered planned fitting
+answered-told op st v b at top =
+    need-told _ _ _ _ (omega arith, omega arith) (need-told _ _ _ _ (omega arith, omega arith) (sound-told (plan-checks _ st v) _ _ (plan-numbered _ st v)
+    (need-told _ _ _ _ (omega arith, omega arith) (need-told _ _ _ _ (omega arith, omega arith) (record { right = tt })))))
 
 answer-told : (op : Op) (st : Style) (v b : List ℕ) (at top : ℕ) → unique.Numbered (stepped op st v b at top .answer)
-unfolding stepped answered planned fitting left
-answer-told op st v b at top =
-    in-left _ (need-told _ 11 at _ (omega arith, omega arith) (need-told _ 11 at _ (omega arith, omega arith) (sound-told (plan-checks _ st v) at _ (plan-numbered _ st v)
-    (need-told _ 1 at _ (omega arith, omega arith) (need-told _ 10 _ _ (omega arith, omega arith) tt)))))
+unfolding stepped left
+answer-told op st v b at top = go (answered op st v b at top) (answered-told op st v b at top .right)
   where
-    in-left : (x : Result Written) → Told x → unique.Numbered (left b at top x .answer)
-    in-left (refused n p) h = h
-    in-left (accepted x) h = tt
+    go : (x : Result Written) → Right x → unique.Numbered (left b at top x .answer)
+    go (refused n p) h = h
+    go (accepted x) h = tt
 
 pub write-said-in-c : (n : ℕ) (style text : List ℕ) (h : Held) → n ≤ last-step
     → decoded (write-in-c n style text (h .bytes) (numbers h) .answer) ≡ stepped (numbered n) (style-in style) text (h .bytes) (h .at) (h .top) .answer
