@@ -96,11 +96,12 @@ scripts =
     ∷ no 60 8 3 (put-space ∷ put-text (record { style = large; chars = [] }) ∷ [])
     ∷ no 60 9 3 (put-space ∷ open-anchor true (ascii "\"") ∷ [])
     ∷ no 6 10 7 (say "a" ∷ [])
-    -- 11 before 7, 8 before 7, 7 before 9, 7 before 6, 7 before 10
+    -- 11 before 7, 8 before 7, 7 before 9, 7 and 8 before 6, 7 before 10
     ∷ no 60 11 3 (open-block flexible ∷ put-text (unstyled wrong) ∷ [])
     ∷ no 60 8 0 (put-text (record { style = large; chars = wrong }) ∷ [])
     ∷ no 60 7 0 (open-anchor true (34 ∷ wrong) ∷ [])
     ∷ no 400 7 192 (behind 32 (begin-join commas (some (unstyled wrong)) ∷ []))
+    ∷ no 400 8 192 (behind 32 (begin-join commas (some (record { style = large; chars = [] })) ∷ []))
     ∷ no 400 6 192 (behind 32 (begin-join commas (some (plain "x")) ∷ []))
     ∷ no 6 7 0 (put-text (unstyled wrong) ∷ [])
     -- 60,000 bytes and one more, which is 1 before 10
