@@ -84,7 +84,7 @@ fn is_bad(st: Style) -> bool
     )
 }
 
-fn style_fault(st: Style) -> usize
+pub fn style_fault(st: Style) -> usize
     ensures { λ r. ⌜ r ≡ first-fault (style-checks (style-of st)) ⌝ }
 {
     if !st.styled {

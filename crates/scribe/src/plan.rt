@@ -11,10 +11,10 @@ ghost use lib.Dec.{eqb};
 ghost use Rattle.moves.specs.Plans.{plan, fragment-here, depth-in, puts, shuts, opens, begins, next-plan, end-space-plan, end-comma-plan};
 
 // The code of an anchor.
-const ANCHOR: u8 = 224;
+pub const ANCHOR: u8 = 224;
 
 // The root, a block's fragment or an entry is open.
-fn fragment_here(kind: usize) -> bool
+pub fn fragment_here(kind: usize) -> bool
     ensures { λ r. ⌜ r ≡ fragment-here kind ⌝ }
 {
     if kind <= 2 {
@@ -33,7 +33,7 @@ pub fn both(a: bool, b: bool) -> bool
 }
 
 // A text may stand there: a fragment or an anchor is open.
-fn text_here(kind: usize) -> bool
+pub fn text_here(kind: usize) -> bool
     ensures { λ r. ⌜ r ≡ (fragment-here kind || eqb kind 7) ⌝ }
 {
     if kind == 7 {
@@ -43,7 +43,7 @@ fn text_here(kind: usize) -> bool
 }
 
 // One of two kinds is open.
-fn one_of(kind: usize, a: usize, b: usize) -> bool
+pub fn one_of(kind: usize, a: usize, b: usize) -> bool
     ensures { λ r. ⌜ r ≡ (eqb kind a || eqb kind b) ⌝ }
 {
     if kind == a {
@@ -53,7 +53,7 @@ fn one_of(kind: usize, a: usize, b: usize) -> bool
 }
 
 // The blocks around the fragment that is open.
-fn depth_in(code: usize) -> usize
+pub fn depth_in(code: usize) -> usize
     requires { ⌜ code ≤ 256 ⌝ }
     ensures { λ r. ⌜ (r ≡ depth-in code) × (r ≤ 32) ⌝ }
 {

@@ -123,9 +123,9 @@ fn close_fields(buf: &mut [u8], at: usize, top: usize, closes: usize) -> usize
 }
 
 // Where a writer stands.
-struct Spot {
-    at: usize,
-    top: usize,
+pub struct Spot {
+    pub at: usize,
+    pub top: usize,
 }
 
 // Opens a field by its code, or none.

@@ -22,10 +22,10 @@ module _ (s : List ℕ) (i n : ℕ) (inv : bits-with n (drop i s) ≡ all-bits s
 -- ---- what the bits say
 
 -- bits only add
-or-above-l : (a b : ℕ) → a ≤ bitOr a b
+pub or-above-l : (a b : ℕ) → a ≤ bitOr a b
 or-above-l a b = omega (arith, or-add-and a b, and-le-r a b)
 
-or-above-r : (a b : ℕ) → b ≤ bitOr a b
+pub or-above-r : (a b : ℕ) → b ≤ bitOr a b
 or-above-r a b = omega (arith, or-add-and a b, and-le-l a b)
 
 bits-above : (n : ℕ) (s : List ℕ) → n ≤ bits-with n s

@@ -65,7 +65,7 @@ fn step(o: Owed, b: u8) -> Begun
 }
 
 // The bits that some byte has: if they are below 128, every byte is ASCII. No exit before the end, so that the machine takes many bytes at once.
-fn all_bits(s: &[u8]) -> u8
+pub fn all_bits(s: &[u8]) -> u8
     ensures { λ r. ⌜ r ≡ all-bits (now (s .entry)) ⌝ }
 {
     let mut all = 0;

@@ -1,6 +1,6 @@
--- `hazomeny::hazomeny_write` meets its contract: a number that is no step's, or the step.
-use Rattle.hazomeny.proofs.WriteLaws.{unknown-step, known-step}
-use borrow.Author.Needs.{needs}
+-- `hazomeny::hazomeny_write` meets its contract: a number that is no step's, a step done at once, or any other.
+use Rattle.rules.proofs.Basics.{arith, needs}
+use Rattle.hazomeny.proofs.WriteLaws.{unknown-step, untouched, small, quick-step, left-alone}
 use Rattle.hazomeny.proofs.hazomeny_write.Statement.{statement}
 use Rattle.hazomeny.proofs.hazomeny_write.Tie as tie
 
@@ -8,6 +8,12 @@ pub hazomeny-write-spec : {M : Type 1} → statement M
 hazomeny-write-spec =
     tie.close (tie.spec (λ c. search needs) (λ c κs. search needs) (λ c. search needs) (λ c κs. search needs) (λ c. search needs) (λ c. search needs)
     (λ c. let f : tie.After-from-state = search in unknown-step _ _ _ _ _ (f .from-state .ensures .0) (c .if1 .taken)) (λ c κs. search needs)
-    (λ c κs. search needs) (λ c κs. search needs) (λ c. search needs) (λ c. search needs) (λ c. search needs) (λ c. search needs) (λ c κs. search needs)
+    (λ c κs. search needs) (λ c. search needs)
+    (λ c. let a : tie.After-any-step = search in let t : tie.Then2 = search in let q : tie.After-quick-step = search in left-alone _ _ _ _ _ (untouched (q .quick-step .ensures) (t .if2 .taken)) (a .any-step .ensures))
+    (λ c. let e : tie.Else2 = search in let q : tie.After-quick-step = search in omega (arith, small (q .quick-step .ensures) (e .if2 .left) .0))
     (λ c. search needs)
-    (λ c. let k : tie.After-answer-in-one = search in let n : tie.After-step-near = search in let y : tie.After-style-in = search in let o : tie.After-numbered = search in let e : tie.Else1 = search in let t : tie.After-from-state2 = search in let f : tie.After-from-state = search in known-step _ _ _ _ _ (f .from-state .ensures .0) (t .from-state2 .ensures .0) (e .if1 .left) (o .numbered .ensures) (y .style-in .ensures) (n .step-near .ensures .0) (k .answer-in-one .ensures)))
+    (λ c. let e : tie.Else2 = search in let q : tie.After-quick-step = search in omega (arith, small (q .quick-step .ensures) (e .if2 .left) .1))
+    (λ c. search needs)
+    (λ c. let e : tie.Else2 = search in let q : tie.After-quick-step = search in record { fits = omega (arith, small (q .quick-step .ensures) (e .if2 .left) .0) })
+    (λ c. search needs)
+    (λ c. let e : tie.Else2 = search in let q : tie.After-quick-step = search in let d : tie.Else1 = search in let t : tie.After-from-state2 = search in let f : tie.After-from-state = search in quick-step _ _ _ _ _ (f .from-state .ensures .0) (t .from-state2 .ensures .0) (d .if1 .left) (q .quick-step .ensures) (e .if2 .left)))

@@ -1,0 +1,2 @@
+-- What a step that is done at once says.
+pub mod Quick
