@@ -4,6 +4,7 @@ use answers::in_one;
 use layout::whole::layout_with_max_line_width;
 use pages::frame::Kind;
 use pages::whole::render_page;
+use quick::steps::LAST_QUICK;
 use quick::steps::quick_step;
 use rules::Answer;
 use scribe::numbers::LAST_STEP;
@@ -14,7 +15,6 @@ use scribe::numbers::style_in;
 use scribe::stepping::step_near;
 use verify::walk::check;
 ghost use mathlib.Core.Path.{_≡_};
-ghost use Prim.Native.Nat.{_≤_};
 ghost use Rattle.rules.specs.Result.{said};
 ghost use Rattle.scribe.specs.InC.{write-in-c, Leaves};
 ghost use Rattle.rules.specs.Answers.{check-answer, layout-outcome, plain-outcome, body-outcome, document-outcome, coded, coded-outcome};
@@ -90,13 +90,15 @@ pub extern "C" fn hazomeny_html_document(file: &[u8], page: &mut [u8]) -> u64
     in_one(html_document(file, page))
 }
 
-// One step by its number, whatever it is and whatever stands in its way.
+// Any step, whatever stands in its way. A number that is no step's is refused by 11.
 fn any_step(file: &mut [u8], state: &mut [u32; 2], step: u8, style: &[u8; 17], text: &[u8]) -> u64
-    requires { ⌜ step ≤ 19 ⌝ }
     ensures { λ r. ⌜ Leaves r (now (file .exit)) (now (state .exit)) (write-in-c step (now (style .entry)) (now (text .entry)) (now (file .entry)) (now (state .entry))) ⌝ }
 {
     let at = from_state(state[0]);
     let top = from_state(state[1]);
+    if LAST_STEP < step {
+        return (at as u64) * 256 + 11;
+    }
     let m = step_near(file, at, top, numbered(step), style_in(style), text);
     state[0] = m.at as u32;
     state[1] = m.top as u32;
@@ -105,7 +107,7 @@ fn any_step(file: &mut [u8], state: &mut [u32; 2], step: u8, style: &[u8; 17], t
 }
 
 // One step of a writer over `file`, by numbers: `state` has how far the file is written, and the place of the innermost open field and 1, or 0. A
-// number that is no step's is refused by 11. A refusal changes no byte and no number.
+// refusal changes no byte and no number.
 #[no_mangle]
 pub extern "C" fn hazomeny_write(
     file: &mut [u8],
@@ -116,12 +118,17 @@ pub extern "C" fn hazomeny_write(
 ) -> u64
     ensures { λ r. ⌜ Leaves r (now (file .exit)) (now (state .exit)) (write-in-c step (now (style .entry)) (now (text .entry)) (now (file .entry)) (now (state .entry))) ⌝ }
 {
-    let at = from_state(state[0]);
-    let top = from_state(state[1]);
-    if LAST_STEP < step {
-        return (at as u64) * 256 + 11;
+    if LAST_QUICK < step {
+        return any_step(file, state, step, style, text);
     }
-    let q = quick_step(file, at, top, step, style, text);
+    let q = quick_step(
+        file,
+        from_state(state[0]),
+        from_state(state[1]),
+        step,
+        style,
+        text,
+    );
     if q.at == 0 {
         return any_step(file, state, step, style, text);
     }

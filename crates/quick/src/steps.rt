@@ -5,8 +5,8 @@ use crate::opening::anchor;
 use crate::opening::block;
 use crate::opening::open;
 use crate::opening::shut;
-use crate::texts::conditional;
-use crate::texts::text;
+use crate::runs::conditional;
+use crate::runs::text;
 use fields::wide;
 use rules::MOST_BYTES;
 use scribe::opened::ROOT;
@@ -24,6 +24,9 @@ ghost use Rattle.moves.specs.Plans.{plan, sane};
 ghost use Rattle.moves.specs.Stepped.{stepped};
 ghost use Rattle.scribe.specs.InC.{numbered, style-in};
 ghost use Rattle.quick.specs.Quick.{Quick, Quickly};
+
+// The number of the last step that is done here.
+pub const LAST_QUICK: u8 = 11;
 
 // Above every code: the numbers are none that a writer has.
 const NO_CODE: usize = 512;

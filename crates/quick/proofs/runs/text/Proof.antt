@@ -1,9 +1,9 @@
--- `quick::texts::text` meets its contract.
+-- `quick::runs::text` meets its contract.
 use Rattle.rules.proofs.Basics.{needs, refl, not-false}
 use Rattle.quick.proofs.TextLaws.{plain-text}
 use Rattle.quick.specs.Quick.{not-here}
-use Rattle.quick.proofs.texts.text.Statement.{statement}
-use Rattle.quick.proofs.texts.text.Tie as tie
+use Rattle.quick.proofs.runs.text.Statement.{statement}
+use Rattle.quick.proofs.runs.text.Tie as tie
 
 pub text-spec : {M : Type 1} → statement M
 text-spec =

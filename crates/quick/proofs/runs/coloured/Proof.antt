@@ -1,8 +1,8 @@
--- `quick::texts::coloured` meets its contract.
+-- `quick::runs::coloured` meets its contract.
 use Rattle.rules.proofs.Basics.{needs}
 use Rattle.quick.proofs.TextLaws.{colour-part, colour-sound}
-use Rattle.quick.proofs.texts.coloured.Statement.{statement}
-use Rattle.quick.proofs.texts.coloured.Tie as tie
+use Rattle.quick.proofs.runs.coloured.Statement.{statement}
+use Rattle.quick.proofs.runs.coloured.Tie as tie
 
 pub coloured-spec : {M : Type 1} → statement M
 coloured-spec =

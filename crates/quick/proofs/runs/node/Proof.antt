@@ -1,10 +1,10 @@
--- `quick::texts::node` meets its contract.
+-- `quick::runs::node` meets its contract.
 use Rattle.rules.proofs.Basics.{arith, needs, refl, not-false}
 use Rattle.scribe.proofs.PlanLaws.{is-sane}
 use Rattle.quick.proofs.TextLaws.{node-so}
 use Rattle.quick.specs.Quick.{not-here}
-use Rattle.quick.proofs.texts.node.Statement.{statement}
-use Rattle.quick.proofs.texts.node.Tie as tie
+use Rattle.quick.proofs.runs.node.Statement.{statement}
+use Rattle.quick.proofs.runs.node.Tie as tie
 
 pub node-spec : {M : Type 1} → statement M
 node-spec =

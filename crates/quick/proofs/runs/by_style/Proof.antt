@@ -1,9 +1,9 @@
--- `quick::texts::by_style` meets its contract.
--- `quick::texts::by_style` meets its contract.
+-- `quick::runs::by_style` meets its contract.
+-- `quick::runs::by_style` meets its contract.
 use Rattle.rules.proofs.Basics.{needs}
 use Rattle.quick.proofs.TextLaws.{no-part, is-set}
-use Rattle.quick.proofs.texts.by_style.Statement.{statement}
-use Rattle.quick.proofs.texts.by_style.Tie as tie
+use Rattle.quick.proofs.runs.by_style.Statement.{statement}
+use Rattle.quick.proofs.runs.by_style.Tie as tie
 
 pub by-style-spec : {M : Type 1} → statement M
 by-style-spec =

@@ -1,10 +1,10 @@
--- `quick::texts::styled` meets its contract.
+-- `quick::runs::styled` meets its contract.
 use Rattle.rules.proofs.Basics.{arith, needs, refl, sym, _∙_, not-false}
 use Rattle.scribe.proofs.PlanLaws.{is-sane}
 use Rattle.quick.proofs.TextLaws.{run-so}
 use Rattle.quick.specs.Quick.{not-here}
-use Rattle.quick.proofs.texts.styled.Statement.{statement}
-use Rattle.quick.proofs.texts.styled.Tie as tie
+use Rattle.quick.proofs.runs.styled.Statement.{statement}
+use Rattle.quick.proofs.runs.styled.Tie as tie
 
 pub styled-spec : {M : Type 1} → statement M
 styled-spec =

@@ -1,10 +1,10 @@
--- `quick::texts::conditional` meets its contract.
+-- `quick::runs::conditional` meets its contract.
 use Rattle.rules.proofs.Basics.{needs, refl, not-false}
 use Rattle.moves.specs.Plans.{piece-bytes, piece-checks}
 use Rattle.quick.proofs.TextLaws.{plain-text}
 use Rattle.quick.specs.Quick.{not-here}
-use Rattle.quick.proofs.texts.conditional.Statement.{statement}
-use Rattle.quick.proofs.texts.conditional.Tie as tie
+use Rattle.quick.proofs.runs.conditional.Statement.{statement}
+use Rattle.quick.proofs.runs.conditional.Tie as tie
 
 pub conditional-spec : {M : Type 1} → statement M
 conditional-spec =

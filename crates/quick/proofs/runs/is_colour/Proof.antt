@@ -1,9 +1,9 @@
--- `quick::texts::is_colour` meets its contract.
+-- `quick::runs::is_colour` meets its contract.
 use Rattle.rules.proofs.Basics.{needs}
 use Rattle.rules.proofs.Chains.{no-path}
 use Rattle.quick.proofs.TextLaws.{colour-alone}
-use Rattle.quick.proofs.texts.is_colour.Statement.{statement}
-use Rattle.quick.proofs.texts.is_colour.Tie as tie
+use Rattle.quick.proofs.runs.is_colour.Statement.{statement}
+use Rattle.quick.proofs.runs.is_colour.Tie as tie
 
 pub is-colour-spec : {M : Type 1} → statement M
 is-colour-spec =
