@@ -10,4 +10,5 @@ def rows(text):
 
 
 def said(cell):
-    return " ".join(cell.strip("`").split())
+    """A bar stands escaped in a cell, which it would end."""
+    return " ".join(cell.strip("`").replace(r"\|", "|").split())
