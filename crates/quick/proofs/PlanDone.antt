@@ -1,10 +1,10 @@
 -- A plan that is carried out at once is the step: a piece alone, a field opened, a field closed.
-use Rattle.rules.proofs.Basics.{_≡_, refl, sym, ap, subst, _∙_, List, [], _∷_, _++_, append-nil, ℕ, zero, suc, _+_, _≤_, _<_, max, min, arith, Bool, true, false, not, length, length-append, leb, le-leb, lt-leb, take, add-one, _*_}
+use Rattle.rules.proofs.Basics.{_≡_, refl, sym, ap, _∙_, List, [], _∷_, _++_, ℕ, zero, suc, _+_, _≤_, _<_, arith, Bool, true, not, length, lt-leb, add-one, _*_}
 use Rattle.rules.specs.Limits.{most-bytes, most-blocks}
 use Rattle.rules.specs.Encode.{field}
 use Rattle.rules.specs.Result.{Check, _or-refuse_, accepted}
 use Rattle.scripts.specs.Shown.{open-header}
-use Rattle.writing.specs.Written.{Written, last, moved, with-text}
+use Rattle.writing.specs.Written.{Written}
 use Rattle.writing.proofs.Laws.{nothing}
 use Rattle.moves.specs.declared.Piece.{Piece}
 use Rattle.moves.specs.declared.Piece.the-variants as piece
@@ -20,11 +20,11 @@ use Rattle.scribe.specs.declared.stepping.Spot.{Spot}
 use Rattle.scribe.proofs.PlanLaws.{Sane, is-sane, one-open}
 use Rattle.scribe.proofs.StyleLaws.{as-text}
 use Rattle.scribe.proofs.PieceLaws.{piece-length, plan-least}
-use Rattle.scribe.proofs.CheckLaws.{Numbered, piece-numbered, fault-then}
+use Rattle.scribe.proofs.CheckLaws.{piece-numbered, fault-then}
 use Rattle.scribe.proofs.OpenedLaws.{Closed}
 use Rattle.scribe.proofs.ActLaws.{carried, near, carried-length}
 use Rattle.scribe.proofs.StepLaws.{went, sound-so}
-use Rattle.quick.specs.Quick.{Quick, Quickly, not-here, done}
+use Rattle.quick.specs.Quick.{Quickly, done}
 
 -- where the writer stands then, as the general step says it
 abbrev moved-to : ℕ → ℕ → Moved

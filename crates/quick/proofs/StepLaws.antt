@@ -1,13 +1,12 @@
 -- A step by its number, and the writer's numbers.
-use Rattle.rules.proofs.Basics.{_≡_, refl, sym, ap, subst, _∙_, List, ℕ, zero, suc, _+_, _-_, _≤_, _<_, arith, Bool, true, false, _&&_, _||_, eqb, leb, ltb, le-leb, ne-eqb, length, getD}
+use Rattle.rules.proofs.Basics.{_≡_, refl, ap, _∙_, List, ℕ, zero, suc, _+_, _-_, _≤_, arith, Bool, true, false, _||_, eqb, ltb, le-leb, length, getD}
 use Rattle.rules.specs.Limits.{most-bytes}
-use Rattle.rules.specs.Result.{Result, refused, accepted, need, _>>_}
+use Rattle.rules.specs.Result.{need, _>>_}
 use Rattle.moves.specs.declared.Op.{Op}
-use Rattle.moves.specs.declared.Plan.{Plan}
 use Rattle.moves.specs.declared.Style.{Style}
 use Rattle.moves.specs.Opened.{code-at}
 use Rattle.moves.specs.Plans.{plan, first-node, sane}
-use Rattle.moves.specs.Stepped.{Written, left, planned, answered, stepped}
+use Rattle.moves.specs.Stepped.{answered, stepped}
 use Rattle.scribe.specs.declared.stepping.Spot.{Spot}
 use Rattle.quick.specs.Quick.{Quick, Quickly}
 

@@ -1,5 +1,5 @@
 -- Texts that are done at once: by what the style says, and the tests that may miss.
-use Rattle.rules.proofs.Basics.{_≡_, refl, sym, ap, subst, _∙_, List, [], _∷_, _++_, ℕ, _+_, _≤_, _<_, arith, Bool, true, false, not, not-true, not-false, ltb, leb, ltb-true, leb-true, le-leb, eqb, eqb-true, ne-eqb, length, getD}
+use Rattle.rules.proofs.Basics.{_≡_, refl, sym, ap, _∙_, List, [], _∷_, _++_, ℕ, _+_, _≤_, arith, Bool, true, false, not, not-true, ltb, ltb-true, eqb, eqb-true, ne-eqb, length, getD}
 use lib.Bits.{bitOr}
 use Rattle.rules.specs.Limits.{most-bytes}
 use Rattle.rules.specs.Bytes.{has}
@@ -15,14 +15,13 @@ use Rattle.writing.specs.Written.{Written}
 use Rattle.writing.proofs.Laws.{then}
 use Rattle.moves.specs.declared.Piece.the-variants as piece
 use Rattle.moves.specs.declared.Style.{Style}
-use Rattle.moves.specs.Style.{with-field, style-fields, there, style-of, run, part, style-bytes, style-part, style-size, bad-style}
-use Rattle.moves.specs.Plans.{piece-bytes, piece-checks, first-fault, puts, sane}
+use Rattle.moves.specs.Style.{with-field, style-fields, style-of, run, part, style-bytes, style-part, style-size, bad-style}
+use Rattle.moves.specs.Plans.{piece-bytes, piece-checks, first-fault, sane}
 use Rattle.scribe.specs.InC.{flag, style-in}
-use Rattle.scribe.specs.declared.stepping.Spot.{Spot}
 use Rattle.scribe.proofs.StyleLaws.{as-text, run-text, run-length}
 use Rattle.scribe.proofs.BadLaws.{good-fault, no-style-fault}
 use Rattle.scribe.proofs.CheckLaws.{style-numbered, fault-then, sound-text, sound-name}
-use Rattle.quick.specs.Quick.{Quick, Quickly, PutsText, ColourAlone, not-here, done}
+use Rattle.quick.specs.Quick.{PutsText, ColourAlone, done}
 use Rattle.quick.proofs.PlanDone.{put-so}
 
 -- ---- tests
