@@ -1,11 +1,11 @@
 -- Runs of bytes that are not escaped: where they end, and what they are on the page.
-use Rattle.rules.proofs.Basics.{_≡_, refl, _∙_, List, [], _∷_, ℕ, suc, _+_, _-_, _<_, _≤_, add-one, arith, length, getD, take, drop, length-drop, drop-of-length-le, drop-cons, ne-eqb}
+use Rattle.rules.proofs.Basics.{_≡_, refl, sym, _∙_, Bool, true, false, not, not-true, false≢true, List, [], _∷_, ℕ, suc, _+_, _-_, _<_, _≤_, add-one, arith, length, getD, take, drop, length-drop, drop-of-length-le, drop-cons, ne-eqb, eqb}
 use lib.Seq.{take-add}
 use Rattle.rules.specs.Html.{Escape, ampersand, less-than, as-it-is, escape, escaped}
 use Rattle.rules.specs.Plain.{fill}
 use Rattle.writing.specs.Written.{Written}
 use Rattle.writing.proofs.Laws.{then}
-use Rattle.markup.specs.Runs.{longer, plain-run, RunsTo}
+use Rattle.markup.specs.Runs.{longer, plain-run, Ahead, RunsTo}
 use Rattle.markup.proofs.EscapeLaws.{escaped-byte, escaped-text, more, no-bytes, first-byte, escaped-append, all}
 
 -- ---- one byte
@@ -27,10 +27,6 @@ unfolding plain-run
 run-at text i h e = rw (drop-cons text i 0 h, e)
 
 -- ---- the search for the end
-
--- from i on the run ends where it ends from `from` on
-pub record Ahead (text : List ℕ) (from i : ℕ) : Type 0 where
-  pub same : from + plain-run (drop from text) ≡ i + plain-run (drop i text)
 
 pub none-ahead : {text : List ℕ} {from : ℕ} → Ahead text from from
 none-ahead = record { same = refl }
@@ -56,6 +52,35 @@ module _ {text : List ℕ} {from i : ℕ} (f : Ahead text from i) where
   pub at-the-end : length text ≤ i → RunsTo text from i
   unfolding plain-run
   at-the-end h = ends-here (rw (drop-of-length-le text h))
+
+-- ---- a window
+
+pub not-less-than : (b : ℕ) → eqb b 60 ≡ false → b ≡ 60 → ⊥
+not-less-than b e q = false≢true (sym e ∙ rw q)
+
+-- the loop stands behind k bytes, and found one that is escaped or not
+pub record Looked (text : List ℕ) (from k : ℕ) (found : Bool) : Type 0 where
+  pub count : k ≤ 8
+  pub ahead : found ≡ false → Ahead text from (from + k)
+
+pub none-looked : (text : List ℕ) (from : ℕ) → Looked text from 0 false
+none-looked text from = let e : from + 0 ≡ from = omega arith in record { count = omega arith; ahead = λ q. rw e none-ahead }
+
+pub one-found : {text : List ℕ} {from k : ℕ} {found : Bool} → k < 8 → found ≡ true → Looked text from (k + 1) found
+one-found h e = record { count = omega arith; ahead = λ q. absurd (false≢true (sym q ∙ e)) }
+
+pub none-found : {text : List ℕ} {from k : ℕ} {found found′ r : Bool} → Looked text from k found → from + 8 ≤ length text → k < 8
+    → (r ≡ false → (getD text (from + k) 0 ≡ 38 → ⊥) × (getD text (from + k) 0 ≡ 60 → ⊥)) → r ≡ false → found′ ≡ found → Looked text from (k + 1) found′
+none-found {text} {from} {k} L h l o e s =
+    let q : from + (k + 1) ≡ from + k + 1 = omega arith in
+    record { count = omega arith; ahead = λ f. rw q (one-plain (L .ahead (sym s ∙ f)) (omega arith) (o e .0) (o e .1)) }
+
+pub looked-at : {text : List ℕ} {from k : ℕ} {found : Bool} → Looked text from k found → 8 ≤ k → not found ≡ true → Ahead text from (from + 8)
+looked-at {text} {from} {k} L l e = let q : k ≡ 8 = omega (arith, L .count) in rw q at (L .ahead (not-true _ e))
+
+-- one window after the other
+pub further : {text : List ℕ} {from i : ℕ} → Ahead text from i → Ahead text i (i + 8) → Ahead text from (i + 8)
+further f g = record { same = f .same ∙ g .same }
 
 -- ---- a run
 

@@ -16,6 +16,10 @@ unfoldable pub plain-run : List ℕ → ℕ
 plain-run [] = 0
 plain-run (b ∷ text) = longer (escape b) (plain-run text)
 
+-- from i on the run ends where it ends from `from` on
+pub record Ahead (text : List ℕ) (from i : ℕ) : Type 0 where
+  pub same : from + plain-run (drop from text) ≡ i + plain-run (drop i text)
+
 -- the bytes from `from` to r are left as they are, and then comes one that is not, or the end
 pub record RunsTo (text : List ℕ) (from r : ℕ) : Type 0 where
   pub ends : r ≡ from + plain-run (drop from text)
