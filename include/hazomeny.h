@@ -1,17 +1,18 @@
 /* The C interface of libhazomeny.a (x86-64 Linux). Every function is total and terminates: it accepts or refuses whatever bytes it is given.
- * docs/FORMAT.md describes the file format, the layout, the pages, the writer and the refusals.
+ * docs/FORMAT.md describes the file format, the layout, the pages, masks, the writer and the refusals.
  *
  * An answer is one number. Its low byte is 0 if the file, or a writer's step, is accepted, else the number of the refusal; the bytes above it
  * are the count, or the place of the refusal. A refusal changes no byte.
  *
  * The caller guarantees what any C function expects of its pointers: `length` bytes can be read at `file` (for hazomeny_layout also
- * written) and at `text`, `room` bytes can be written at `page` and at a writer's `file`, no two of these overlap, and nobody writes to any of
- * them during the call. A page is only written: what stood in it decides nothing, so it need not be initialised. If a length is 0 its pointer
- * is not followed and may be NULL. The functions keep no pointer and no state and use no memory but the stack, so threads may call them at the
- * same time. */
+ * written), at `original` and at `text`, `mask_length` bytes at `mask`, `room` bytes can be written at `page` and at a writer's `file`, no two
+ * of these overlap (but an original and its mask may, being only read), and nobody writes to any of them during the call. A page is only
+ * written: what stood in it decides nothing, so it need not be initialised. If a length is 0 its pointer is not followed and may be NULL. The
+ * functions keep no pointer and no state and use no memory but the stack, so threads may call them at the same time. */
 #ifndef HAZOMENY_H
 #define HAZOMENY_H
 
+#include <stdbool.h>
 #include <stddef.h>
 #include <stdint.h>
 #include <string.h>
@@ -30,11 +31,11 @@ enum {
     HAZOMENY_HTML_FRAME = 1072
 };
 
-/* The number of the refusal, 1 to 11, or 0 if the file or step is accepted. */
+/* The number of the refusal, 1 to 13, or 0 if the file, pair or step is accepted. */
 static inline unsigned hazomeny_refusal(uint64_t answer) { return (unsigned)(answer & 255); }
 
 /* The count of an accepted answer, or the place of a refusal: a byte of the file, or for refusal 10 the bytes that the page or a writer's file
- * needs. */
+ * needs, or for 13 the place that was asked for. */
 static inline uint64_t hazomeny_number(uint64_t answer) { return answer >> 8; }
 
 /* The file check. Only reads the file. Answers the count 0 if the file is accepted, else the first fault: refusal 1 or 3 to 9. */
@@ -56,6 +57,26 @@ uint64_t hazomeny_html_body(const uint8_t *file, size_t length, uint8_t *page, s
 
 /* The whole HTML document: the body, with its style element. Otherwise as hazomeny_html_body. */
 uint64_t hazomeny_html_document(const uint8_t *file, size_t length, uint8_t *page, size_t room);
+
+/* The mask of a file: the same file, but each byte of its texts (fields 17 and 7) that is no newline is `x`. All else is copied, the names of
+ * anchors too. Only reads the file. The mask has the file's length, is accepted itself, and its pages break into the same lines. Otherwise as
+ * hazomeny_plain, but the `room` with which 10 never comes is `length`. */
+uint64_t hazomeny_mask(const uint8_t *file, size_t length, uint8_t *page, size_t room);
+
+/* The check of a pair, which is a file and its mask, and of a place in both. Only reads them. Answers the length of the text whose field, a 17
+ * or 7, has its tag at `place`. The first of these refusals answers:
+ *
+ *     1, 3 to 9  the original's, by the file check; then the mask's
+ *            12  the second file is not the mask of the first; the place is the first byte that is not the mask's, or the length of the
+ *                shorter file if there is none before it
+ *            13  no 17 or 7 begins at `place` */
+uint64_t hazomeny_pair(const uint8_t *original, size_t length, const uint8_t *mask, size_t mask_length, uint32_t place);
+
+/* The text at a place of a pair, no copy but a part of one of the two files: of the original for a reader with the right to names, else of the
+ * mask. Its length is the number that hazomeny_pair answered; only where that accepted the same files and place may this be called. */
+static inline const uint8_t *hazomeny_text(const uint8_t *original, const uint8_t *mask, uint32_t place, bool names) {
+    return (names ? original : mask) + place + 3; /* behind the field's tag and its two bytes of length */
+}
 
 /* A writer: the bytes that it writes a fragment file into, how many they are, and how far it has come. The struct is the caller's own.
  * hazomeny_writer_over starts one; below are the steps, which write a file from its front to its end. examples/write.c writes a call.

@@ -1,6 +1,7 @@
 //! What the command takes: one definition for parsing, help, completion and the manual.
 
 use crate::page::Kind;
+use crate::product::Product;
 use clap::{Args, Parser, Subcommand};
 use clap_complete::Shell;
 use std::num::NonZeroUsize;
@@ -17,7 +18,7 @@ file) and what stands there, such as
 
 docs/FORMAT.md describes fragment files, widths and refusals.";
 
-/// Checks, lays out and prints listings of shader modules (fragment files), by a library that is proved to follow its rules
+/// Checks, lays out, prints and masks listings of shader modules (fragment files), by a library that is proved to follow its rules
 #[derive(Parser)]
 #[command(name = "hazomeny", version, propagate_version = true, after_help = NOTES)]
 pub struct Arguments {
@@ -35,6 +36,8 @@ pub enum Task {
     Check(Check),
     /// Write a file laid out at a width: blocks that do not fit become indented ones
     Layout(Layout),
+    /// Mask a file, or every *.fragment file below a folder: each byte of a text but newlines becomes x, the names of anchors stay
+    Mask(Files),
     /// Write a script to standard output that lets a shell complete the arguments of this command
     Completion {
         /// The shell to write it for
@@ -54,11 +57,11 @@ pub struct Html {
 }
 
 impl Html {
-    pub fn kind(&self) -> Kind {
-        match self.body {
+    pub fn product(&self) -> Product {
+        self.printing.product(match self.body {
             true => Kind::Body,
             false => Kind::Document,
-        }
+        })
     }
 }
 
@@ -66,11 +69,24 @@ impl Html {
 #[derive(Args)]
 pub struct Printing {
     #[command(flatten)]
-    pub width: Width,
-    /// Write there, whole or not at all, in place of standard output; for a folder, the folder that gets the pages (.txt or .html)
+    width: Width,
+    #[command(flatten)]
+    pub files: Files,
+}
+
+impl Printing {
+    pub fn product(&self, kind: Kind) -> Product {
+        Product::Page(kind, self.width.columns)
+    }
+}
+
+/// What each task has that makes something of a file, or of every file of a folder.
+#[derive(Args)]
+pub struct Files {
+    /// Write there, whole or not at all, in place of standard output; for a folder, the folder that gets the pages (.txt or .html) or masks (.fragment)
     #[arg(short, long, value_name = "OUT")]
     pub output: Option<PathBuf>,
-    /// How many files of a folder are printed at a time; if not given, as many as there are processors
+    /// How many files of a folder are worked on at a time; if not given, as many as there are processors
     #[arg(short, long, value_name = "N")]
     pub jobs: Option<NonZeroUsize>,
     /// The fragment file, or the folder; `-` or nothing is standard input

@@ -1,10 +1,10 @@
-//! Every `*.fragment` file below a folder, printed to files of another folder, several at a time.
+//! Every `*.fragment` file below a folder, printed or masked to files of another folder, several at a time.
 
-use crate::arguments::Printing;
+use crate::arguments::Files;
 use crate::failure::{Failure, Status};
 use crate::input::{shown, Source};
-use crate::page::Kind;
-use crate::{output, print as printing};
+use crate::product::Product;
+use crate::{make as making, output};
 use indicatif::{ProgressBar, ProgressStyle};
 use std::ffi::OsStr;
 use std::io::{self, IsTerminal};
@@ -15,39 +15,51 @@ use std::{fs, thread};
 use walkdir::{DirEntry, WalkDir};
 
 struct Work<'a> {
-    kind: Kind,
-    width: usize,
+    product: Product,
     folder: &'a Path,
     out: &'a Path,
 }
 
-/// Prints what can be printed, tells the failures in the order of the files' names, and ends with one line on standard output.
-pub fn print(kind: Kind, folder: &Path, asked: &Printing) -> Result<Status, Failure> {
-    let named = asked.output.as_deref();
-    let Some(out) = named.filter(|out| *out != Path::new("-")) else {
-        let words = "it is a folder, so -o has to name the folder that gets the pages";
-        return Err(Failure::usage(&shown(folder), words));
-    };
-    let width = asked.width.columns;
+/// Makes what can be made, tells the failures in the order of the files' names, and ends with one line on standard output.
+pub fn make(product: Product, folder: &Path, asked: &Files) -> Result<Status, Failure> {
     let work = Work {
-        kind,
-        width,
+        product,
         folder,
-        out,
+        out: written_to(product, folder, asked)?,
     };
     let (files, unread) = found(folder);
     let failures = work.all(&files, workers(asked.jobs));
     let told = unread.iter().chain(&failures).map(Failure::tell).max();
-    output::standard(summary(files.len(), &unread, &failures).as_bytes())?;
+    output::standard(work.summary(files.len(), &unread, &failures).as_bytes())?;
     Ok(told.unwrap_or(Status::Done))
 }
 
-fn summary(files: usize, unread: &[Failure], failures: &[Failure]) -> String {
-    let is_refusal = |failure: &&Failure| failure.status == Status::Refused;
-    let refused = failures.iter().filter(is_refusal).count();
-    let printed = files - failures.len();
-    let failed = unread.len() + failures.len() - refused;
-    format!("{printed} of {files} files printed, {refused} refused, {failed} could not be read or written\n")
+/// The folder that is written to. A mask has its file's name, and among the files that are masked it could take the place of one.
+fn written_to<'a>(product: Product, folder: &Path, asked: &'a Files) -> Result<&'a Path, Failure> {
+    let named = asked.output.as_deref();
+    let Some(out) = named.filter(|out| *out != Path::new("-")) else {
+        let name = product.name();
+        let words = format!("it is a folder, so -o has to name the folder that gets the {name}");
+        return Err(Failure::usage(&shown(folder), &words));
+    };
+    if matches!(product, Product::Mask) && overlap(folder, out) {
+        let words = "a mask has its file's name, so neither folder may lie in the other";
+        return Err(Failure::usage(&shown(out), words));
+    }
+    Ok(out)
+}
+
+/// Whether one of the folders is the other, or lies in it. The one that is written to need not be there yet.
+fn overlap(folder: &Path, out: &Path) -> bool {
+    let (Some(folder), Some(above)) = (real(folder), out.ancestors().find_map(real)) else {
+        return false;
+    };
+    above.starts_with(&folder) || real(out).is_some_and(|out| folder.starts_with(out))
+}
+
+/// The path without links, where it leads to something.
+fn real(path: &Path) -> Option<PathBuf> {
+    fs::canonicalize(Path::new(".").join(path)).ok()
 }
 
 fn workers(asked: Option<NonZeroUsize>) -> usize {
@@ -84,6 +96,14 @@ fn unreadable(folder: &Path, why: walkdir::Error) -> Failure {
 }
 
 impl Work<'_> {
+    fn summary(&self, files: usize, unread: &[Failure], failures: &[Failure]) -> String {
+        let is_refusal = |failure: &&Failure| failure.status == Status::Refused;
+        let refused = failures.iter().filter(is_refusal).count();
+        let (made, done) = (files - failures.len(), self.product.done());
+        let failed = unread.len() + failures.len() - refused;
+        format!("{made} of {files} files {done}, {refused} refused, {failed} could not be read or written\n")
+    }
+
     /// Each worker takes the next file until none is left. The failures come in the order of the files.
     fn all(&self, files: &[PathBuf], workers: usize) -> Vec<Failure> {
         let (next, bar) = (AtomicUsize::new(0), progress(files.len()));
@@ -105,17 +125,13 @@ impl Work<'_> {
 
     fn one(&self, path: &Path) -> Result<Status, Failure> {
         let inside = path.strip_prefix(self.folder).unwrap_or(path);
-        let page = self.out.join(inside).with_extension(self.kind.extension());
-        if let Some(folder) = page.parent() {
-            let made = fs::create_dir_all(folder);
-            made.map_err(|why| Failure::system(&shown(folder), &why))?;
+        let made = self.out.join(inside);
+        let made = made.with_extension(self.product.extension());
+        if let Some(folder) = made.parent() {
+            let there = fs::create_dir_all(folder);
+            there.map_err(|why| Failure::system(&shown(folder), &why))?;
         }
-        printing::one(
-            self.kind,
-            &Source::File(path.into()),
-            self.width,
-            Some(&page),
-        )
+        making::one(self.product, &Source::File(path.into()), Some(&made))
     }
 }
 

@@ -1,4 +1,4 @@
-//! `hazomeny`: checks, lays out and prints fragment files by the proved library.
+//! `hazomeny`: checks, lays out, prints and masks fragment files by the proved library.
 //!
 //! A new subcommand is a case of [`Task`], which help, completion and manual follow, and a line in [`run`].
 
@@ -8,11 +8,12 @@ mod failure;
 mod folder;
 mod input;
 mod layout;
+mod make;
 mod manual;
 mod output;
 mod page;
 mod place;
-mod print;
+mod product;
 mod signals;
 mod whole;
 
@@ -21,6 +22,7 @@ use clap::{CommandFactory, Parser};
 use clap_complete::Shell;
 use failure::{Failure, Status};
 use page::Kind;
+use product::Product;
 use std::process::ExitCode;
 
 fn main() -> ExitCode {
@@ -34,10 +36,11 @@ fn main() -> ExitCode {
 /// A task that goes on past a failure tells it itself, and answers the worst status.
 fn run(task: Task) -> Result<Status, Failure> {
     match task {
-        Task::Print(asked) => print::print(Kind::Plain, &asked),
-        Task::Html(asked) => print::print(asked.kind(), &asked.printing),
+        Task::Print(asked) => make::make(asked.product(Kind::Plain), &asked.files),
+        Task::Html(asked) => make::make(asked.product(), &asked.printing.files),
         Task::Check(asked) => check::check(asked.files),
         Task::Layout(asked) => layout::layout(asked),
+        Task::Mask(asked) => make::make(Product::Mask, &asked),
         Task::Completion { shell } => output::standard(&completion(shell)),
         Task::Manual => output::standard(manual::written(Arguments::command()).as_bytes()),
     }

@@ -1,5 +1,6 @@
 //! The commands: what each reads, prints and exits with.
 
+mod pairing;
 mod writing;
 
 use crate::answers::{answer, rendered, Answer, Operation, Request};
@@ -13,6 +14,7 @@ use crate::hex::hex;
 use crate::masks::{self, Unlike};
 use crate::numbers::{self, Misprint};
 use crate::options::Options;
+use crate::pair;
 use crate::random::Random;
 use crate::record;
 use crate::selftest;
@@ -42,7 +44,9 @@ oracle COMMAND: the Rust original's answers for fragment files
                                the same as a response batch: the judge as a
                                subject of another judge
   record DIR                   writes the recorded answers
-  lines [--seed S] [--files N] prints files in hex with the check's answer
+  lines [--of WHAT] [--seed S] [--files N]
+                               prints files in hex with the check's answer, or
+                               where WHAT is `mask` with the mask
   compare --subject WHAT [--parts P,P] [--seed S] [--files N | --seconds N]
                                WHAT is `self`, `library` (the proved library,
                                where it is linked to this program) or a command
@@ -51,6 +55,10 @@ oracle COMMAND: the Rust original's answers for fragment files
   masks --subject WHAT [--seed S] [--files N | --seconds N]
                                accepted files and masks of them get the same
                                answers, and one list of bytes gives their pages
+  pairs --subject WHAT [--seed S] [--files N | --seconds N]
+                               masks of files, and couples of files that are
+                               pairs or not, are answered as the judge's own
+                               tree of fields says; WHAT is `self` or `library`
   words --subject WHAT [--seed S] [--files N | --seconds N]
                                accepted files without a 7 show the words of
                                their texts, and the same tags, at two widths
@@ -88,7 +96,7 @@ pub fn run(words: &[String]) -> Result<ExitCode, Mistake> {
         "answers" => run_answers(&Options::new(rest, &[])?),
         "respond" => run_respond(&Options::new(rest, &[])?),
         "record" => run_record(&Options::new(rest, &[])?),
-        "lines" => run_lines(&Options::new(rest, &["seed", "files"])?),
+        "lines" => run_lines(&Options::new(rest, &["of", "seed", "files"])?),
         "compare" => {
             let allowed = ["subject", "parts", "seed", "files", "seconds"];
             run_compare(&Options::new(rest, &allowed)?)
@@ -96,6 +104,10 @@ pub fn run(words: &[String]) -> Result<ExitCode, Mistake> {
         "masks" => {
             let allowed = ["subject", "seed", "files", "seconds"];
             run_masks(&Options::new(rest, &allowed)?)
+        }
+        "pairs" => {
+            let allowed = ["subject", "seed", "files", "seconds"];
+            pairing::run_pairs(&Options::new(rest, &allowed)?)
         }
         "words" => {
             let allowed = ["subject", "seed", "files", "seconds"];
@@ -217,22 +229,37 @@ fn seed(options: &Options) -> Result<u64, Mistake> {
 
 fn run_lines(options: &Options) -> Result<ExitCode, Mistake> {
     let [] = options.words()?;
+    let said_of = match options.text("of") {
+        None | Some("check") => checked_words,
+        Some("mask") => mask_words,
+        Some(other) => return Err(format!("no lines of {other}")),
+    };
     let seed = seed(options)?;
     let files = options.number("files")?.unwrap_or(1_000_u64);
     eprintln!("seed {seed}");
     let random = (0..files).map(|index| compare::any_file(&mut Random::new(seed, index)));
     let mut out = io::BufWriter::new(io::stdout().lock());
     for file in noise::all_short().chain(random) {
-        let said = match check(&file) {
-            Ok(()) => "accepted".into(),
-            Err(refusal) => wire::answer_words(refusal.into()),
-        };
-        match writeln!(out, "{} {said}", hex(&file)) {
+        match writeln!(out, "{} {}", hex(&file), said_of(&file)) {
             Err(e) if e.kind() == io::ErrorKind::BrokenPipe => break,
             done => done.map_err(|e| e.to_string())?,
         }
     }
     Ok(ExitCode::SUCCESS)
+}
+
+fn checked_words(file: &[u8]) -> String {
+    match check(file) {
+        Ok(()) => "accepted".into(),
+        Err(refusal) => wire::answer_words(refusal.into()),
+    }
+}
+
+fn mask_words(file: &[u8]) -> String {
+    match pair::mask(file) {
+        Ok(mask) => format!("masked {}", hex(&mask)),
+        Err(refusal) => wire::answer_words(refusal.into()),
+    }
 }
 
 fn parts(options: &Options) -> Result<Vec<Operation>, Mistake> {

@@ -20,9 +20,12 @@ pub mod library;
 pub mod lister;
 #[cfg(feature = "linked")]
 pub mod lists;
+pub mod masker;
 pub mod masks;
 pub mod numbers;
 pub mod options;
+pub mod pair;
+pub mod pairs;
 pub mod properties;
 pub mod random;
 pub mod record;

@@ -1,5 +1,6 @@
 //! The proved library in this very program, as a subject: what it is lent stands between guards.
 
+mod pairing;
 mod writing;
 
 use crate::answers::{Answer, Asked, Operation, Outcome, Request, Right, LENT};

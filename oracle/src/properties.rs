@@ -5,6 +5,7 @@ use crate::bare;
 use crate::body;
 use crate::check::check;
 use crate::field::{self, Field};
+use crate::pair::{self, masked};
 use crate::tags::*;
 use crate::tree;
 
@@ -15,7 +16,7 @@ pub type Held = Result<(), String>;
 pub type Property = (&'static str, fn(&[u8], u16) -> Held);
 
 /// Of accepted files.
-pub const OF_ACCEPTED: [Property; 10] = [
+pub const OF_ACCEPTED: [Property; 11] = [
     ("generated files are accepted", accepted),
     ("decoding and encoding give the file back", there_and_back),
     ("layout only turns 4s into 3s", layout_changes_4_to_3),
@@ -24,6 +25,7 @@ pub const OF_ACCEPTED: [Property; 10] = [
     ("the document holds the body", document_holds_body),
     ("a page is refused by 10 just when it does not fit", rooms),
     ("a mask has the same layout and the same lines", mask),
+    ("a file and its mask are a pair", is_pair),
     ("the words are the same at every width", same_words),
     ("a page is not too long for its file", not_too_long),
 ];
@@ -156,19 +158,6 @@ fn rooms(file: &[u8], width: u16) -> Held {
     Ok(())
 }
 
-/// Every byte of every 17 and 7 but newline becomes `x`.
-fn masked(fields: &[Field]) -> Vec<Field> {
-    let mask = |byte: &u8| if *byte == b'\n' { b'\n' } else { b'x' };
-    let field = |field: &Field| match field {
-        Field::Leaf(tag @ (TEXT_BYTES | IF_BLOCK_LAYOUT), value) => {
-            Field::Leaf(*tag, value.iter().map(mask).collect())
-        }
-        Field::Inner(tag, inside) => Field::Inner(*tag, masked(inside)),
-        other => other.clone(),
-    };
-    fields.iter().map(field).collect()
-}
-
 fn newlines(page: &[u8]) -> Vec<usize> {
     let places = page.iter().enumerate();
     places
@@ -206,6 +195,26 @@ fn mask(file: &[u8], width: u16) -> Held {
     ensure(body.len() == mask_body.len(), || {
         "another body length".into()
     })
+}
+
+/// The mask is its own mask, and has an `x` for each byte but newline just where the pair has its texts.
+fn is_pair(file: &[u8], _: u16) -> Held {
+    let told = |refusal| format!("{refusal:?}");
+    let mask = pair::mask(file).map_err(told)?;
+    ensure(pair::mask(&mask) == Ok(mask.clone()), || {
+        "the mask has another mask".into()
+    })?;
+    let mut expected = file.to_vec();
+    for (place, length) in pair::texts(file, &mask).map_err(told)? {
+        let header = field::encode(&[field::leaf(file[place], vec![0; length])]);
+        ensure(file[place..].starts_with(&header[..HEADER]), || {
+            format!("no text of {length} bytes begins at {place}")
+        })?;
+        let text = expected[place + HEADER..][..length].iter_mut();
+        text.filter(|byte| **byte != b'\n')
+            .for_each(|byte| *byte = b'x');
+    }
+    ensure(expected == mask, || "another mask".into())
 }
 
 /// Without its 7s a file shows the words of its texts, as it stands and at two

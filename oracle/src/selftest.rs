@@ -11,6 +11,7 @@ use crate::hex::hex;
 use crate::known;
 use crate::masks;
 use crate::numbers::{self, Number, Tally};
+use crate::pairs;
 use crate::properties::{Held, Property, OF_ACCEPTED, OF_ANY};
 use crate::random::Random;
 use crate::scribe::Second;
@@ -19,7 +20,7 @@ use crate::shrink::shrink;
 use crate::subject::Oneself;
 use crate::tags::LEAST_OPACITY;
 use crate::words;
-use crate::wrong::{self, Misprinter, Wrong, WrongScribe};
+use crate::wrong::{self, Misprinter, Wrong, WrongMasker, WrongScribe};
 use std::num::NonZeroUsize;
 use std::panic::{catch_unwind, AssertUnwindSafe};
 
@@ -60,6 +61,8 @@ pub fn run(seed: u64, files: u64) -> Result<Vec<String>, String> {
     found.extend(wrong_subjects(seed)?);
     found.push(masks_alike(seed, files / 50)?);
     found.extend(wrong_of_masks(seed)?);
+    found.push(pairs_alike(seed, files / 50)?);
+    found.extend(wrong_of_pairs(seed)?);
     found.push(same_words(seed, files / 50)?);
     found.extend(wrong_of_words(seed)?);
     found.push(scripts_alike(seed, files / 20)?);
@@ -171,6 +174,38 @@ fn wrong_of_masks(seed: u64) -> Result<Vec<String>, String> {
         })
     };
     wrong::of_masks().into_iter().map(tried).collect()
+}
+
+/// `pairs` finds no fault in the judge itself, and every refusal of a mask and of a pair comes up.
+fn pairs_alike(seed: u64, files: u64) -> Result<String, String> {
+    match pairs::run(&mut Oneself, seed, Extent::Files(files)) {
+        Ok(tally) => match tally.missing().filter(|_| files >= 2_000) {
+            Some(number) => Err(format!("no mask or pair was refused by {number}")),
+            None => Ok(format!("masks and pairs: {}", tally.words())),
+        },
+        Err(Stop::CannotAsk(why)) => Err(why),
+        Err(Stop::Differs(unlike)) => Err(unlike.words()),
+    }
+}
+
+/// `pairs` has to find every wrong masker and every wrong reader of pairs, in small files.
+fn wrong_of_pairs(seed: u64) -> Result<Vec<String>, String> {
+    let tried = |mut wrong: WrongMasker| {
+        let ran = pairs::run(&mut wrong, seed, ENOUGH);
+        let (name, longest) = (wrong.name, wrong.longest);
+        match ran {
+            Ok(_) => Err(format!("not found: {name}")),
+            Err(Stop::CannotAsk(why)) => Err(format!("{name}: {why}")),
+            Err(Stop::Differs(unlike)) => match unlike.bytes {
+                bytes if bytes <= longest => Ok(format!("found in {bytes} bytes: {name}")),
+                bytes => Err(format!(
+                    "{name}: {bytes} bytes, over {longest}\n{}",
+                    unlike.words()
+                )),
+            },
+        }
+    };
+    wrong::of_pairs().into_iter().map(tried).collect()
 }
 
 /// `words` finds no fault in the judge itself.

@@ -1,5 +1,6 @@
 //! Subjects that are wrong on purpose: the comparison has to find each fault and make it small.
 
+mod of_pairs;
 mod of_scripts;
 mod of_words;
 
@@ -8,6 +9,7 @@ use crate::field::{self, Field};
 use crate::numbers::Number;
 use crate::subject::{Said, Subject};
 use crate::tags::*;
+pub use of_pairs::WrongMasker;
 pub use of_scripts::WrongScribe;
 
 /// A wrong subject, and the longest file that its fault may shrink to.
@@ -64,6 +66,10 @@ pub fn all() -> Vec<Wrong> {
 
 pub fn of_masks() -> Vec<Wrong> {
     OF_MASKS.into_iter().map(Wrong::new).collect()
+}
+
+pub fn of_pairs() -> Vec<WrongMasker> {
+    of_pairs::all()
 }
 
 pub fn of_scripts() -> Vec<WrongScribe> {

@@ -25,8 +25,8 @@ RULE_LIMITS = (ROOT / "crates" / "rules" / "specs" / "Limits.antt").read_text()
 CALLERS_LIMITS = ["MOST_BYTES", "MOST_COLUMNS", "PLAIN_PER_BYTE", "HTML_PER_BYTE", "HTML_FRAME"]
 
 # What a parameter of a proved entry is in C and in Rust: a slice is a pointer and a length, and where a page or a writer's file is lent to be filled the
-# length is called its room.
-LENGTHS = {"page": "room"}
+# length is called its room. The second file of a pair has a length of its own.
+LENGTHS = {"page": "room", "mask": "mask_length"}
 WRITERS_LENGTHS = {"file": "room"}
 C_TYPES = {
     "&[u8]": "const uint8_t *{}",
@@ -34,6 +34,7 @@ C_TYPES = {
     "&[u8; 17]": "const uint8_t {}[17]",
     "&mut [u32; 2]": "uint32_t {}[2]",
     "u8": "uint8_t {}",
+    "u32": "uint32_t {}",
     "usize": "size_t {}",
     "u64": "uint64_t {}",
 }
@@ -43,6 +44,7 @@ RUST_TYPES = {
     "&[u8; 17]": "*const [u8; 17]",
     "&mut [u32; 2]": "*mut [u32; 2]",
     "u8": "u8",
+    "u32": "u32",
     "usize": "usize",
     "u64": "u64",
 }
@@ -191,8 +193,8 @@ class Limits(unittest.TestCase):
 
 
 class Prototypes(unittest.TestCase):
-    def test_there_are_six(self):
-        right = ("check", "layout", "plain", "html_body", "html_document", "write")
+    def test_there_are_eight(self):
+        right = ("check", "layout", "plain", "html_body", "html_document", "mask", "pair", "write")
         self.assertEqual([name for name, _, _ in entries()], [f"hazomeny_{each}" for each in right])
 
     def test_the_header(self):
@@ -210,10 +212,13 @@ class Prototypes(unittest.TestCase):
             (declared_in_c, HEADER, in_c, "size_t width);", "uint32_t width);"),
             (declared_in_c, HEADER, in_c, "uint32_t state[2], ", "uint32_t state[3], "),
             (declared_in_c, HEADER, in_c, "const uint8_t style[17]", "const uint8_t *style"),
+            (declared_in_c, HEADER, in_c, "size_t mask_length, uint32_t place", "uint32_t mask_length, size_t place"),
             (declared_in_rust, RUST, in_rust, "length: usize, width: usize", "width: usize, length: usize"),
             (declared_in_rust, RUST, in_rust, "width: usize) -> u64;", "width: usize) -> u32;"),
             (declared_in_rust, RUST, in_rust, "style: *const [u8; 17]", "style: *const [u8; 16]"),
             (declared_in_rust, RUST, in_rust, "step: u8", "step: u32"),
+            (declared_in_rust, RUST, in_rust, "place: u32", "place: usize"),
+            (declared_in_rust, RUST, in_rust, "mask: *const u8,", "mask: *mut u8,"),
         ]
         for declared, source, right, was, wrong in mistakes:
             with self.subTest(wrong):

@@ -5,7 +5,7 @@ import subprocess
 
 from harness import CALL, Case, run
 
-TASKS = ["print", "html", "check", "layout", "completion", "manual"]
+TASKS = ["print", "html", "check", "layout", "mask", "completion", "manual"]
 SHELLS = ["bash", "elvish", "fish", "powershell", "zsh"]
 
 
@@ -28,7 +28,7 @@ class Arguments(Case):
         wrong = [
             [], ["nonsense"], ["print", "--nonsense"], ["print", "-w", "wide", CALL], ["print", "-w", "-1", CALL], ["print", "-w", "", CALL],
             ["print", ""], ["print", CALL, CALL], ["print", "-j", "0", CALL], ["html", "-o", "", CALL], ["layout", CALL],
-            ["completion"], ["completion", "tcl"], ["manual", "more"],
+            ["mask", "-w", "7", CALL], ["mask", CALL, CALL], ["mask", "-o", "", CALL], ["completion"], ["completion", "tcl"], ["manual", "more"],
         ]
         for arguments in wrong:
             with self.subTest(arguments):

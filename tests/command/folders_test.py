@@ -7,13 +7,13 @@ import signal
 import subprocess
 import time
 
-from harness import CALL, QUOTE, QUOTED, Case, ODD_NAME, names_below, run, text, words
+from harness import CALL, MASKED, QUOTE, QUOTED, Case, ODD_NAME, names_below, run, text, words
 
 FILES = int(os.environ.get("HAZOMENY_FILES", "10000"))
 
 
-def summary(printed, files, refused=0, failed=0):
-    return b"%d of %d files printed, %d refused, %d could not be read or written\n" % (printed, files, refused, failed)
+def summary(printed, files, refused=0, failed=0, done=b"printed"):
+    return b"%d of %d files %s, %d refused, %d could not be read or written\n" % (printed, files, done, refused, failed)
 
 
 class Folders(Case):
@@ -71,6 +71,33 @@ class Folders(Case):
         self.ends(["print", self.given, "-o", taken], 3, summary(0, 1, 0, 1), b"hazomeny: %s: File exists\n" % os.fsencode(taken))
         with open("/dev/full", "wb") as full:
             self.ends(["print", self.given, "-o", self.out], 3, None, b"hazomeny: standard output: No space left on device\n", stdout=full)
+
+    def test_masks(self):
+        """They have the files' names, in another folder."""
+        names = ["a", os.fsdecode(ODD_NAME), "b/c.d"]
+        for name in names:
+            self.file(f"given/{name}.fragment", CALL.read_bytes())
+        told = b"%s/e.fragment: %s" % (os.fsencode(self.given), QUOTE)
+        self.file("given/e.fragment", QUOTED.read_bytes())
+        for _ in ("new", "old"):
+            self.ends(["mask", self.given, "-o", self.out, "-j", "2"], 1, summary(3, 4, 1, done=b"masked"), told)
+        masks = [f"{self.out}/{name}.fragment" for name in names]
+        self.assertEqual(names_below(self.out), sorted(map(os.fsencode, masks)))
+        self.assertTrue(all(open(mask, "rb").read() == MASKED for mask in masks))
+
+    def test_where_the_masks_go(self):
+        words = b"hazomeny: %s: it is a folder, so -o has to name the folder that gets the masks\n" % os.fsencode(self.given)
+        for out in ([], ["-o", "-"]):
+            self.ends(["mask", self.given, *out], 2, b"", words)
+        call = self.file("given/given/a.fragment", CALL.read_bytes())
+        (self.folder / "link").symlink_to(self.given)
+        for out in ("given", "given/", "given/new/er", ".", "link/new", str(self.given), "given/../given"):
+            words = b"hazomeny: %s: a mask has its file's name, so neither folder may lie in the other\n" % os.fsencode(out)
+            self.ends(["mask", "given", "-o", out], 2, b"", words, cwd=self.folder)
+            self.assertEqual((names_below(self.given), call.read_bytes()), ([os.fsencode(call)], CALL.read_bytes()))
+        for out in ("given more", "new/given", "given/../out"):
+            self.ends(["mask", "given", "-o", out], out=summary(1, 1, done=b"masked"), cwd=self.folder)
+            self.holds(self.folder / out / "given" / "a.fragment", MASKED)
 
     def test_many_files(self):
         self.many(FILES)

@@ -26,6 +26,15 @@ def text(value):
     return field(1, field(17, value))
 
 
+def call(prefix, first, comma, second, last, suffix):
+    """A call of two arguments with these texts, as CALL has it for `f(`, `a`, `,`, `b`, `,` and `)`."""
+    arguments = field(8, text(first) + text(comma) + field(5)) + field(8, text(second) + field(7, last))
+    return text(prefix) + field(4, arguments) + text(suffix)
+
+
+MASKED = call(b"xx", b"x", b"x", b"x", b"x", b"x")
+
+
 @functools.cache
 def built():
     """The words that run the command, without the script that builds it."""

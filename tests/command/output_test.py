@@ -9,7 +9,7 @@ import stat
 import subprocess
 import time
 
-from harness import CALL, QUOTED, Case, ODD_NAME, as_nobody, built, run, text, words
+from harness import CALL, MASKED, QUOTED, Case, ODD_NAME, as_nobody, built, run, text, words
 
 PAGE = b"f(a, b)"
 
@@ -30,6 +30,8 @@ class Output(Case):
         self.holds(out, PAGE)
         self.ends(["html", CALL, "-o", out])
         self.assertTrue(out.read_bytes().endswith(b"</html>\n"))
+        self.ends(["mask", CALL, "-o", out])
+        self.holds(out, MASKED)
         self.ends(["print", CALL, "-o", "-"], out=PAGE)
 
     def test_a_failure_leaves_what_was_there(self):
@@ -37,11 +39,12 @@ class Output(Case):
         new = self.folder / "new"
         long = self.file("long", text(b"a\n" * 5_000))
         for out in (old, new):
-            self.assertEqual(run("print", QUOTED, "-o", out)[:2], (1, b""))
-            self.assertEqual(run("print", self.folder / "none", "-o", out)[:2], (3, b""))
-            self.ends(["print", long, "-o", out], 3, b"", b"hazomeny: %s: File too large\n" % os.fsencode(out), preexec_fn=few_bytes)
-            self.assertFalse(new.exists())
-            self.holds(old, b"as it was")
+            for task in ("print", "mask"):
+                self.assertEqual(run(task, QUOTED, "-o", out)[:2], (1, b""))
+                self.assertEqual(run(task, self.folder / "none", "-o", out)[:2], (3, b""))
+                self.ends([task, long, "-o", out], 3, b"", b"hazomeny: %s: File too large\n" % os.fsencode(out), preexec_fn=few_bytes)
+                self.assertFalse(new.exists())
+                self.holds(old, b"as it was")
 
     def test_places_that_take_no_file(self):
         for out, why in [(self.folder, b"Is a directory"), (self.folder / "none" / "out", b"No such file or directory"),

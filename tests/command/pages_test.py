@@ -1,9 +1,9 @@
-"""What print, html, check and layout write for one file, and what they refuse."""
+"""What print, html, check, layout and mask write for one file, and what they refuse."""
 
 import os
 import subprocess
 
-from harness import CALL, QUOTE, QUOTED, ROOT, Case, ODD_NAME, field, run, text, words
+from harness import CALL, MASKED, QUOTE, QUOTED, ROOT, Case, ODD_NAME, field, run, text, words
 
 BROKEN = b"f(\n  a,\n  b,\n)"
 LONGEST = 60_000
@@ -22,13 +22,16 @@ class Pages(Case):
         for named in ([], ["-"]):
             self.ends(["print", "-w", "6", *named], out=BROKEN, given=call)
             self.ends(["check", *named], out=b"standard input: accepted\n", given=call)
-            self.ends(["print", *named], 1, b"", b"standard input: " + QUOTE, given=QUOTED.read_bytes())
+            self.ends(["mask", *named], out=MASKED, given=call)
+            for task in ("print", "mask"):
+                self.ends([task, *named], 1, b"", b"standard input: " + QUOTE, given=QUOTED.read_bytes())
 
     def test_the_file_is_not_touched(self):
         copy = self.file("copy", CALL.read_bytes())
         copy.chmod(0o444)
         before = copy.stat()
         self.ends(["print", "-w", "0", copy], out=BROKEN)
+        self.ends(["mask", copy], out=MASKED)
         self.assertEqual((copy.read_bytes(), copy.stat().st_mtime_ns), (CALL.read_bytes(), before.st_mtime_ns))
 
     def test_html(self):
@@ -61,6 +64,35 @@ class Pages(Case):
         self.ends(["layout", "-o", out, QUOTED], 1, b"", os.fsencode(QUOTED) + b": " + QUOTE)
         self.holds(out, laid_out)
 
+    def test_mask(self):
+        out = self.folder / "out"
+        self.ends(["mask", "-o", out, CALL])
+        self.holds(out, MASKED)
+        self.ends(["mask", "-o", "-", CALL], out=MASKED)
+        self.ends(["mask", "-j", "2", CALL], out=MASKED)
+        own = self.file("own", CALL.read_bytes())
+        self.ends(["mask", "-o", own, own])
+        self.holds(own, MASKED)
+        self.ends(["mask", own], out=MASKED)
+        self.ends(["mask", "-o", out, QUOTED], 1, b"", os.fsencode(QUOTED) + b": " + QUOTE)
+        self.holds(out, MASKED)
+        self.ends(["check", out], out=os.fsencode(out) + b": accepted\n")
+
+    def test_a_mask_prints_the_same_lines(self):
+        masked = self.file("masked", MASKED)
+        self.ends(["print", "-w", "7", masked], out=b"xxxx xx")
+        self.ends(["print", "-w", "6", masked], out=b"xx\n  xx\n  xx\nx")
+
+    def test_a_mask_hides_texts_alone(self):
+        """Newlines stay, and so do the names of anchors, and styles."""
+        def nodes(word, lines, comma):
+            anchor = field(2, field(18, b"name") + field(1, field(16, field(32, b"abc")) + field(17, word)))
+            return anchor + field(3, field(8, text(lines) + field(7, comma))) + text(b"")
+
+        file = self.file("file", nodes(b"name", b"\xc3\xa9\n\nx y", b",\n"))
+        self.ends(["mask", file], out=nodes(b"xxxx", b"xx\n\nxxx", b"x\n"))
+        self.ends(["mask", self.file("empty", b"")])
+
     def test_names_and_what_stands_there(self):
         cases = [
             (b"", None),
@@ -78,7 +110,7 @@ class Pages(Case):
                 self.ends(["check", path], out=name + b": accepted\n")
                 self.ends(["print", path])
             else:
-                for task in ("check", "print", "html"):
+                for task in ("check", "print", "html", "mask"):
                     self.ends([task, path], 1, b"", b"%s: refused %s\n" % (name, refusal.encode()))
 
     def test_names_cannot_move_the_cursor(self):
@@ -94,10 +126,11 @@ class Pages(Case):
     def test_long_files_are_not_read_whole(self):
         longest = self.file("longest", field(5) * (LONGEST // 3))
         self.ends(["print", longest])
+        self.ends(["mask", longest], out=longest.read_bytes())
         endless = self.folder / "endless"
         with open(endless, "wb") as file:
             file.truncate(1 << 40)
-        for task in ("check", "print", "html"):
+        for task in ("check", "print", "html", "mask"):
             self.ends([task, endless], 1, b"", b"%s: refused 1 at 0: the file is longer than 60,000 bytes\n" % os.fsencode(endless))
         refusal = b"standard input: refused 1 at 0: the file is longer than 60,000 bytes\n"
         with open("/dev/zero", "rb") as zeros:
@@ -118,7 +151,7 @@ class Pages(Case):
     def test_ends_of_output(self):
         """A reader that goes away is no failure, a full disk is one."""
         page = self.file("page", text(b"a\n" * 29_000))
-        for arguments in (["print", page], ["html", page], ["layout", "-o", "-", page], ["check", CALL], ["--help"]):
+        for arguments in (["print", page], ["html", page], ["layout", "-o", "-", page], ["mask", page], ["check", CALL], ["--help"]):
             reader, writer = os.pipe()
             os.close(reader)
             self.ends(arguments, -13, None, b"", stdout=writer)
@@ -130,7 +163,7 @@ class Pages(Case):
         self.assertEqual((told.stdout, told.stderr), (b"a\n", b""))
 
     def test_what_cannot_be_read(self):
-        for task in ("print", "html", "check"):
+        for task in ("print", "html", "check", "mask"):
             missing = self.folder / "none"
             self.ends([task, missing], 3, b"", b"hazomeny: %s: No such file or directory\n" % os.fsencode(missing))
         self.ends(["layout", "-o", "-", ROOT], 3, b"", b"hazomeny: %s: Is a directory\n" % os.fsencode(ROOT))

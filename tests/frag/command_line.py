@@ -114,7 +114,7 @@ REFUSED = [
     ("05" * 60_001, "", "refused 1 at 0: the file has 60,001 bytes, more than 60,000"),
 ]
 
-COMMANDS = ["build", "dump", "check", "hex", "unhex", "help"]
+COMMANDS = ["build", "dump", "check", "mask", "hex", "unhex", "help"]
 
 
 class CommandLine(Case):
@@ -189,8 +189,8 @@ class CommandLine(Case):
 
     def test_unusable(self):
         missing = self.folder / "missing"
-        for each in [("build",), ("dump",), ("dump", "--notation"), ("check",), ("hex",),
-                     ("unhex",)]:
+        for each in [("build",), ("dump",), ("dump", "--notation"), ("check",), ("mask",),
+                     ("hex",), ("unhex",)]:
             self.same("%s of a missing file" % " ".join(each), frag(*each, missing),
                       (2, b"", "frag: %s: No such file or directory\n" % missing))
             self.same("%s of a folder" % " ".join(each), frag(*each, self.folder),
@@ -199,11 +199,13 @@ class CommandLine(Case):
         self.same("build -o into a missing folder",
                   frag("build", SAMPLES / "call.frag", "-o", nowhere),
                   (2, b"", "frag: %s: No such file or directory\n" % nowhere))
-        self.same("check of nothing named", frag("check"),
-                  (2, b"", "frag: check: found neither a FILE nor --lines, expected one of them\n"))
-        self.same("check --lines without a line", frag("check", "--lines"),
-                  (2, b"", "frag: standard input: found no line, expected lines of hex and "
-                   "answer\n"))
+        for each in ["check", "mask"]:
+            self.same("%s of nothing named" % each, frag(each),
+                      (2, b"", "frag: %s: found neither a FILE nor --lines, expected one of them\n"
+                       % each))
+            self.same("%s --lines without a line" % each, frag(each, "--lines"),
+                      (2, b"", "frag: standard input: found no line, expected lines of hex and "
+                       "answer\n"))
         for line in ["accepted", "0x05 accepted", "05", "05 maybe", "050 accepted"]:
             self.same("check --lines of '%s'" % line, frag("check", "--lines", given=line.encode()),
                       (2, b"", "frag: standard input:1:1: found '%s', expected hex digits, a "
@@ -218,7 +220,7 @@ class CommandLine(Case):
         os.close(writer)
         self.same("a closed output", command("dump", shader, preexec_fn=lambda: os.close(1))[::2],
                   (2, "frag: standard output: closed\n"))
-        for arguments in [("dump", "-"), ("check", "--lines")]:
+        for arguments in [("dump", "-"), ("check", "--lines"), ("mask", "--lines")]:
             self.same("a closed input", command(*arguments, preexec_fn=lambda: os.close(0)),
                       (2, b"", "frag: standard input: closed\n"))
         if os.path.exists("/dev/full"):

@@ -2,10 +2,11 @@
 
 import argparse
 import os
+import re
 import signal
 import sys
 
-from . import dump, hexes, notation, unparse
+from . import dump, hexes, masking, notation, unparse
 from .items import encode, offset_of
 from .reading import check, read
 from .source import NotUtf8, SourceError, decoded, line_and_column, shown
@@ -127,6 +128,11 @@ def run_dump(options):
         write_lines(unparse.notation_lines(data, fields, refusal))
     else:
         write_lines(dump.tree_lines(data, fields))
+    return told(refusal)
+
+
+def told(refusal):
+    """The exit status for a file's first fault, which is told on standard error, or for none."""
     if refusal is None:
         return ACCEPTED
     if sys.stderr is not None:
@@ -134,9 +140,25 @@ def run_dump(options):
     return REFUSED
 
 
+def run_mask(options):
+    if options.lines:
+        return agree_lines(MASKED, mask_answer)
+    if options.file is None:
+        raise Trouble("mask: found neither a FILE nor --lines, expected one of them")
+    mask, refusal = masking.mask(read_input(options.file))
+    if refusal is None:
+        write_output(mask, options.output)
+    return told(refusal)
+
+
+def mask_answer(data):
+    mask, refusal = masking.mask(data)
+    return refusal.answer() if refusal else "masked " + mask.hex()
+
+
 def run_check(options):
     if options.lines:
-        return check_lines()
+        return agree_lines(CHECKED, lambda data: answer(check(data)))
     if options.file is None:
         raise Trouble("check: found neither a FILE nor --lines, expected one of them")
     refusal = check(read_input(options.file))
@@ -148,14 +170,19 @@ def answer(refusal):
     return refusal.answer() if refusal else "accepted"
 
 
-def check_lines():
+# What a line may answer where it does not refuse: a pattern, and what it is called.
+CHECKED = ("accepted", "'accepted'")
+MASKED = ("masked [0-9a-f]*", "'masked HEX'")
+
+
+def agree_lines(kind, answer_to):
     """Compares this reader with another one's answers, line by line as they come."""
     if sys.stdin is None:
         raise Trouble("standard input: closed")
     agreed = 0
     for number, line in enumerate(sys.stdin.buffer, 1):
-        data, theirs = answered_line(number, line)
-        ours = answer(check(data))
+        data, theirs = answered_line(number, line, kind)
+        ours = answer_to(data)
         if ours != theirs:
             write_lines(["line %d disagrees: %s" % (number, data.hex() or "(empty file)"),
                          "  the line says: %s" % theirs, "  frag says: %s" % ours,
@@ -168,17 +195,18 @@ def check_lines():
     return ACCEPTED
 
 
-def answered_line(number, line):
+def answered_line(number, line, kind):
     """The file and the answer of a line `HEX ANSWER`."""
+    pattern, words = kind
     text = line.decode("utf-8", "replace").rstrip("\r\n")
     digits, space, theirs = text.partition(" ")
     try:
         data = bytes.fromhex(digits)
     except ValueError:
         space = ""
-    if not space or not (theirs == "accepted" or theirs.startswith("refused ")):
-        raise Trouble("standard input:%d:1: found %s, expected hex digits, a space, and 'accepted' "
-                      "or 'refused N at P'" % (number, shown(text)))
+    if not space or not re.fullmatch(pattern + "|refused .*", theirs):
+        raise Trouble("standard input:%d:1: found %s, expected hex digits, a space, and %s "
+                      "or 'refused N at P'" % (number, shown(text), words))
     return data, theirs
 
 
@@ -235,6 +263,12 @@ COMMANDS = [
                               "from standard input"}),
       (("file",), {"nargs": "?", "metavar": "FILE",
                    "help": "a fragment file, or - for standard input"})]),
+    ("mask", run_mask, "Make a file's mask: the same with x for each byte of its texts.",
+     [(("--lines",), {"action": "store_true",
+                      "help": "compare with answers 'HEX masked HEX' or 'HEX refused N at P' "
+                              "from standard input"}),
+      (("file",), {"nargs": "?", "metavar": "FILE",
+                   "help": "a fragment file, or - for standard input"}), OUTPUT]),
     ("hex", run_hex, "Print a file's bytes as hex, a top-level field to a row.", [FILE]),
     ("unhex", run_unhex, "Make bytes from hex digits, white space and # comments.",
      [(("file",), {"nargs": "?", "default": "-", "metavar": "FILE",

@@ -13,6 +13,14 @@ extern "C" {
         page: *mut u8,
         room: usize,
     ) -> u64;
+    pub fn hazomeny_mask(file: *const u8, length: usize, page: *mut u8, room: usize) -> u64;
+    pub fn hazomeny_pair(
+        original: *const u8,
+        length: usize,
+        mask: *const u8,
+        mask_length: usize,
+        place: u32,
+    ) -> u64;
     pub fn hazomeny_write(
         file: *mut u8,
         room: usize,

@@ -1,4 +1,4 @@
-//! The five entries on slices, and the three pages appended to a vector.
+//! The entries on slices, and the three pages and a mask appended to a vector.
 
 use crate::c::{self, answer};
 use crate::{Refusal, HTML_FRAME, HTML_PER_BYTE, MOST_BYTES, PLAIN_PER_BYTE};
@@ -143,6 +143,37 @@ pub fn append_html_document(file: &[u8], page: &mut Vec<u8>) -> Result<usize, Re
     append(c::hazomeny_html_document, most_html(file), file, page)
 }
 
+/// Writes the mask of a file to the start of `page` and says how long it is, which is as long as the file; later bytes stay.
+///
+/// A mask is the same file, but each byte of its texts that is no newline is `x`. All else is copied, the names of anchors too. It is accepted as
+/// the file is, and its pages break into the same lines. A [`Pair`](crate::Pair) reads the two together.
+///
+/// A slice that is shorter than the file is refused with the bytes needed.
+///
+/// ```
+/// let file = b"\x01\0\x08\x11\0\x05a\xc3\xa9\nb";
+/// let mut mask = [0; 11];
+/// assert_eq!(hazomeny::mask_file(file, &mut mask), Ok(11));
+/// assert_eq!(&mask, b"\x01\0\x08\x11\0\x05xxx\nx");
+/// let refusal = hazomeny::mask_file(file, &mut mask[..10]).unwrap_err();
+/// assert_eq!(refusal.bytes_needed(), Some(11));
+/// ```
+pub fn mask_file(file: &[u8], page: &mut [u8]) -> Result<usize, Refusal> {
+    lend(c::hazomeny_mask, file, page)
+}
+
+/// Appends the mask of a file to `page`, which grows as needed, and says how many bytes it added, which is the file's length; otherwise as
+/// [`mask_file`]. A refusal leaves `page`'s bytes as they were.
+///
+/// ```
+/// let mut mask = Vec::new();
+/// assert_eq!(hazomeny::append_mask(b"\x01\0\x05\x11\0\x02ok", &mut mask), Ok(8));
+/// assert_eq!(mask, b"\x01\0\x05\x11\0\x02xx");
+/// ```
+pub fn append_mask(file: &[u8], page: &mut Vec<u8>) -> Result<usize, Refusal> {
+    append(c::hazomeny_mask, counted(file), file, page)
+}
+
 type PageEntry = unsafe extern "C" fn(*const u8, usize, *mut u8, usize) -> u64;
 
 fn lend(entry: PageEntry, file: &[u8], page: &mut [u8]) -> Result<usize, Refusal> {
@@ -164,8 +195,8 @@ fn most_html(file: &[u8]) -> usize {
     HTML_PER_BYTE * counted(file) + HTML_FRAME
 }
 
-/// Makes room for the most bytes that the page can have. What a vector that had no room before is left with is copied out of it: to shrink it
-/// costs the allocator more, which keeps a large mapping for a small page and makes the next one anew.
+/// Makes room for the most bytes that the page can have. Where a vector that had no room before has some left, its bytes are copied out of it: to
+/// shrink it costs the allocator more, which keeps a large mapping for a small page and makes the next one anew.
 fn append(
     entry: PageEntry,
     most: usize,
@@ -175,7 +206,7 @@ fn append(
     let had_none = page.capacity() == 0;
     page.reserve(most);
     let said = append_to_spare(entry, file, page);
-    if had_none {
+    if had_none && page.len() < page.capacity() {
         *page = page.as_slice().to_vec();
     }
     said

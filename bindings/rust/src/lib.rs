@@ -1,9 +1,9 @@
 //! A printer of shader listings that is proved, not only tested, to do what its rules say.
 //!
-//! It lays a fragment file out at a width, in place, and prints it as a plain page or as HTML; and it writes such files, step by step
-//! ([`Writer`]). Every function is total and terminates, for any file, width, page buffer and step. What it does not accept it refuses by number
-//! and place ([`Refusal`]); a refusal changes no byte. `docs/FORMAT.md` of the repository describes the file format, the layout, the pages, the
-//! writer and the refusals.
+//! It lays a fragment file out at a width, in place, and prints it as a plain page or as HTML; it masks the texts of a file and reads the two
+//! together ([`Pair`]); and it writes such files, step by step ([`Writer`]). Every function is total and terminates, for any file, width, page
+//! buffer, place and step. What it does not accept it refuses by number and place ([`Refusal`]); a refusal changes no byte. `docs/FORMAT.md` of the
+//! repository describes the file format, the layout, the pages, masks, the writer and the refusals.
 //!
 //! ```
 //! // `f(a, b)`: entries between a prefix and a suffix, on lines of their own where they do not fit
@@ -35,14 +35,16 @@
 mod c;
 mod entries;
 mod limits;
+mod pair;
 mod refusal;
 mod step;
 mod style;
 mod writer;
 
-pub use entries::{append_html_body, append_html_document, append_plain_page};
-pub use entries::{check_file, html_body, html_document, layout_file, plain_page};
+pub use entries::{append_html_body, append_html_document, append_mask, append_plain_page};
+pub use entries::{check_file, html_body, html_document, layout_file, mask_file, plain_page};
 pub use limits::{HTML_FRAME, HTML_PER_BYTE, MOST_BYTES, MOST_COLUMNS, PLAIN_PER_BYTE};
+pub use pair::Pair;
 pub use refusal::Refusal;
 pub use style::{Style, Text};
 pub use writer::{Buffer, Entries, Writer};

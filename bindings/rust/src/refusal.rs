@@ -1,4 +1,4 @@
-//! Why an entry or a writer refused, by number and place.
+//! Why an entry, a pair or a writer refused, by number and place.
 
 use std::error::Error;
 use std::fmt;
@@ -9,10 +9,11 @@ use std::fmt;
 /// step may be another, or the same once more.
 #[derive(Clone, Copy, Debug, PartialEq, Eq, Hash)]
 pub struct Refusal {
-    /// 1 to 11.
+    /// 1 to 13.
     pub number: u8,
     /// The byte of the file where the fault stands. Of a writer's step it is where the step would have begun to write; for
-    /// [`Refusal::PAGE_TOO_SHORT`] it is the bytes that the page needs, or the file with the step in it.
+    /// [`Refusal::PAGE_TOO_SHORT`] it is the bytes that the page needs, or the file with the step in it; for [`Refusal::NO_TEXT`] it is the place
+    /// that was asked for.
     pub place: usize,
 }
 
@@ -22,6 +23,13 @@ impl Refusal {
 
     /// The number of a writer's refusal of a step that is not allowed where it stands, such as the end of a block while an anchor is open.
     pub const OUT_OF_PLACE: u8 = 11;
+
+    /// The number of a pair's refusal of a second file that is not the mask of the first. The place is the first byte that is not the mask's, or
+    /// the length of the shorter file where there is none before it.
+    pub const NOT_THE_MASK: u8 = 12;
+
+    /// The number of a pair's refusal of a place where no text's field begins.
+    pub const NO_TEXT: u8 = 13;
 
     /// What the number means. Of a writer's step it speaks of the file as it would be with the step in it.
     pub fn meaning(&self) -> &'static str {
@@ -37,6 +45,8 @@ impl Refusal {
             9 => "quote in an anchor's name",
             Self::PAGE_TOO_SHORT => "the buffer needs so many bytes",
             Self::OUT_OF_PLACE => "a step that is not allowed there",
+            Self::NOT_THE_MASK => "the second file is not the mask of the first",
+            Self::NO_TEXT => "no text begins there",
             _ => "no refusal of this library",
         }
     }

@@ -8,10 +8,12 @@ const LENT: u8 = 0xa5;
 type Page = fn(&[u8], &mut [u8]) -> Result<usize, Refusal>;
 type Append = fn(&[u8], &mut Vec<u8>) -> Result<usize, Refusal>;
 
-const PAGES: [(Page, Append); 3] = [
+/// The entries that write to a page: the pages, and last the mask.
+const PAGES: [(Page, Append); 4] = [
     (plain_page, append_plain_page),
     (html_body, append_html_body),
     (html_document, append_html_document),
+    (mask_file, append_mask),
 ];
 
 fn field(tag: u8, value: &[u8]) -> Vec<u8> {
@@ -218,7 +220,7 @@ fn styled(count: usize) -> Vec<u8> {
 fn so_much_for_each_byte_and_the_frame_is_enough_for_html() {
     assert!(appended(append_html_body, &styled(100)).len() > 4 * styled(100).len());
     for file in [indented_lines(29_000), styled(1), styled(1_700), call()] {
-        for (page, append) in &PAGES[1..] {
+        for (page, append) in &PAGES[1..3] {
             let right = appended(*append, &file);
             for room in [most_html(&file) - 1, most_html(&file)] {
                 let mut lent = vec![LENT; room];
@@ -278,10 +280,12 @@ fn a_new_vector_keeps_no_more_than_it_needs() {
 
 #[test]
 fn an_empty_page_adds_nothing() {
-    for mut page in [Vec::new(), b"as it was".to_vec()] {
-        let before = page.clone();
-        assert_eq!(append_plain_page(b"", &mut page), Ok(0));
-        assert_eq!(page, before);
+    for append in [append_plain_page, append_mask] {
+        for mut page in [Vec::new(), b"as it was".to_vec()] {
+            let before = page.clone();
+            assert_eq!(append(b"", &mut page), Ok(0));
+            assert_eq!(page, before);
+        }
     }
 }
 

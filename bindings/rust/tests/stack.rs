@@ -63,7 +63,7 @@ fn on_a_small_stack(work: impl FnOnce() + Send + 'static) {
         .expect("the work ends well");
 }
 
-/// All five entries; at width 0 every block breaks.
+/// All entries; at width 0 every block breaks.
 fn all_entries(mut file: Vec<u8>) {
     assert_eq!(check_file(&file), Ok(0));
     assert_eq!(layout_file(&mut file, 0), Ok(MOST_BLOCKS));
@@ -78,6 +78,20 @@ fn all_entries(mut file: Vec<u8>) {
     let body = String::from_utf8(pages[1].clone()).expect("the body is UTF-8");
     let document = String::from_utf8(pages[2].clone()).expect("the document is UTF-8");
     assert!(document.contains(&body));
+    masked_and_read(&file);
+}
+
+/// The file ends in the five bytes of a text that shows only in a broken block: `,` and a newline.
+fn masked_and_read(file: &[u8]) {
+    let mut mask = Vec::new();
+    assert_eq!(append_mask(file, &mut mask), Ok(file.len()));
+    let last = u32::try_from(file.len() - 5).expect("the file is short");
+    let pair = Pair::new(file, &mask);
+    assert_eq!(pair.check(last), Ok(2));
+    assert_eq!(
+        [true, false].map(|names| pair.text(last, names)),
+        [b",\n", b"x\n"]
+    );
 }
 
 #[test]

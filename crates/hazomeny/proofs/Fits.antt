@@ -1,8 +1,9 @@
 -- Every answer's number fits 64 bits and loses nothing: places and counts are at most a file's length, a page is shorter than 2^24 bytes, and refusals
 -- have numbers of 1 to 255.
-use Rattle.rules.proofs.Basics.{_≡_, refl, sym, subst, _∙_, ap, List, Bool, true, false, ℕ, _^_, _<_, arith, leb, length, getD, leb-true}
+use Rattle.rules.proofs.Basics.{_≡_, refl, sym, subst, _∙_, ap, List, [], _∷_, none, some, Bool, true, false, ℕ, suc, _+_, _≤_, _^_, _<_, arith, leb, eqb, length, getD, leb-true}
+use mathlib.Core.Option.{Option}
 use Rattle.rules.specs.Limits.{most-bytes, most-columns}
-use Rattle.rules.specs.Bytes.{newline}
+use Rattle.rules.specs.Bytes.{newline, if_then_else_}
 use Rattle.rules.specs.Result.{Result, refused, accepted, _>>=_, _>>_, need}
 use Rattle.rules.specs.Tree.{Frag}
 use Rattle.rules.specs.Encode.{encode}
@@ -18,6 +19,13 @@ use Rattle.rules.proofs.Unique.{Numbered}
 use Rattle.rules.proofs.Demand3.{by-kind}
 use Rattle.pages.proofs.HtmlLengths.{page-short}
 use Rattle.verify.proofs.Verdicts.{every-byte}
+use Rattle.rules.specs.Mask.{newlines, mask}
+use Rattle.pairs.specs.Masking.{mask-text, mask-outcome}
+use Rattle.pairs.specs.Pair.{first-difference, same, pair-text, length-of, pair-answer}
+use Rattle.pairs.specs.Flat.{length-at-place, found-length}
+use Rattle.pairs.proofs.OfFiles.{length-within}
+use Rattle.pairs.proofs.Masks.{tree-passes, mask-accepted}
+use Rattle.pairs.proofs.Pairs.{answer-by, answered}
 use Rattle.layout.proofs.Counted.{changed-le}
 
 -- an answer whose number fits and loses nothing
@@ -68,12 +76,69 @@ told-page k s page b = rw (by-kind k s page) (go (tree s) refl)
         let text = fill itself (shown k escape newline t) in
         told-written (leb (length text) (length page)) text page (page-short k t (R .good) (subst Bytes (sym (R .encodes)) b))
 
+-- ---- the mask, and the pair
+
+short : (s : List ℕ) (t : Frag ℕ) → Bytes s → tree s ≡ accepted t → length s ≤ most-bytes
+unfolding encode
+short s t b e = let R : Read s t = tree-read s t b e in rw (R .encodes) at (R .good .short)
+
+pub told-mask : (s page : List ℕ) → Bytes s → Told (mask-outcome s page .0)
+unfolding mask-outcome mask-text left-page _>>=_
+told-mask s page b = go (tree s) refl
+  where
+    go : (x : Result (Frag ℕ)) → tree s ≡ x → Told (left-page (x >>= (λ t. accepted (mask newlines s))) page .0)
+    go (refused n p) f = told-refused s n p f
+    go (accepted t) f =
+        told-written (leb (length (mask newlines s)) (length page)) (mask newlines s) page (omega (arith, mask-accepted s b (tree-passes s t f) .same-length, short s t b f))
+
+difference-within : (a b : List ℕ) → first-difference a b ≤ length a
+unfolding first-difference
+difference-within [] b = omega arith
+difference-within (x ∷ a) [] = omega arith
+difference-within (x ∷ a) (y ∷ b) = go (eqb x y) (difference-within a b)
+  where
+    go : (c : Bool) → first-difference a b ≤ length a → (if c then suc (first-difference a b) else 0) ≤ suc (length a)
+    go true h = omega arith
+    go false h = omega arith
+
+told-length : (p : ℕ) (x : Option ℕ) → p < 2 ^ 32 → ((n : ℕ) → x ≡ some n → n ≤ most-bytes) → Told (found-length p x)
+unfolding found-length coded
+told-length p none l h = omega arith
+told-length p (some n) l h = omega (arith, h n refl)
+
+-- 12 and 13 of two accepted files
+told-matched : (o m : List ℕ) (p : ℕ) (t u : Frag ℕ) → p < 2 ^ 32 → Bytes o → Bytes m → tree o ≡ accepted t → tree m ≡ accepted u → Told (answer-by (mask newlines o) m p)
+unfolding answer-by need _>>_ _>>=_ coded
+told-matched o m p t u l b c e f = rw f (go (same m M) refl)
+  where
+    M : List ℕ
+    M = mask newlines o
+
+    go : (x : Bool) → same m M ≡ x → Told (need x 12 (first-difference m M) >> found-length p (length-at-place M p))
+    go false q = omega (arith, difference-within m M, short m u c f)
+    go true q = told-length p (length-at-place M p) l (λ n z. omega (arith, length-within M p n z, mask-accepted o b (tree-passes o t e) .same-length, short o t b e))
+
+pub told-pair : (o m : List ℕ) (p : ℕ) → p < 2 ^ 32 → Bytes o → Bytes m → Told (pair-answer o m p)
+unfolding answer-by pair-answer pair-text length-of _>>=_
+told-pair o m p l b c = go (tree o) (tree m) refl refl
+  where
+    go : (x y : Result (Frag ℕ)) → tree o ≡ x → tree m ≡ y → Told (pair-answer o m p)
+    go (refused n q) y e f = rw e (told-refused o n q e)
+    go (accepted t) (refused n q) e f = rw (answered o m p b (tree-passes o t e), f) (told-refused m n q f)
+    go (accepted t) (accepted u) e f = rw (answered o m p b (tree-passes o t e)) (told-matched o m p t u l b c e f)
+
 -- an answer that is an outcome's, and its number with the bytes left
 pub coded-fits : {a : Result ℕ} {s : List ℕ} (o : Result ℕ × List ℕ) → Told (o .0) → (a, s) ≡ o → coded a < 2 ^ 64
 coded-fits o h e = subst (λ (x : Result ℕ). coded x < 2 ^ 64) (sym (ap (λ (x : Result ℕ × List ℕ). x .0) e)) (h .fits)
 
 pub page-fits : (k : Page) (s page : List ℕ) {a : Result ℕ} {r : List ℕ} → (a, r) ≡ outcome-of k s page → ((i : ℕ) → getD s i 0 < 256) → coded a < 2 ^ 64
 page-fits k s page e b = coded-fits (outcome-of k s page) (told-page k s page (every-byte s b)) e
+
+pub mask-fits : (s page : List ℕ) {a : Result ℕ} {r : List ℕ} → (a, r) ≡ mask-outcome s page → ((i : ℕ) → getD s i 0 < 256) → coded a < 2 ^ 64
+mask-fits s page e b = coded-fits (mask-outcome s page) (told-mask s page (every-byte s b)) e
+
+pub pair-fits : (o m : List ℕ) (p : ℕ) {a : Result ℕ} → a ≡ pair-answer o m p → p < 2 ^ 32 → ((i : ℕ) → getD o i 0 < 256) → ((i : ℕ) → getD m i 0 < 256) → coded a < 2 ^ 64
+pair-fits o m p e l b c = rw e (told-pair o m p l (every-byte o b) (every-byte m c) .fits)
 
 pub coded-pair : (x : Result ℕ × List ℕ) {a : Result ℕ} {s : List ℕ} {r : ℕ} → r ≡ coded a → (a, s) ≡ x → (r, s) ≡ coded-outcome x
 unfolding coded-outcome

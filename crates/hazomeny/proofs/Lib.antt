@@ -7,3 +7,4 @@ pub mod Written
 pub mod Demand3
 pub mod EveryWidth
 pub mod WrongPrograms
+pub mod Masking

@@ -4,6 +4,7 @@ use Rattle.rules.specs.declared.Answer.{Answer}
 use Rattle.rules.specs.declared.Answer.the-variants.{Done}
 use Rattle.rules.specs.Result.{Result, refused, accepted, said}
 use Rattle.rules.specs.Answers.{written, left-page, plain-text, plain-outcome, document-text, document-outcome}
+use Rattle.pairs.specs.Masking.{mask-text, mask-outcome}
 
 -- an entry's count is within its page, so as many bytes can be taken from the page's start
 pub record InPage (n : ℕ) (page : List ℕ) : Type 0 where
@@ -35,3 +36,7 @@ module _ (s page : List ℕ) (a : Answer) {n : ℕ} {page′ : List ℕ} (q : a 
   pub document-in-page : (said a, page′) ≡ document-outcome s page → InPage n page′
   unfolding document-outcome
   document-in-page e = counted (document-text s) e
+
+  pub mask-in-page : (said a, page′) ≡ mask-outcome s page → InPage n page′
+  unfolding mask-outcome
+  mask-in-page e = counted (mask-text s) e

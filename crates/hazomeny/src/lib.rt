@@ -2,6 +2,10 @@
 // and answer in one number (`coded` of rules). The writer's entries in Rattle are `scribe::held`; here is its C name.
 use answers::in_one;
 use layout::whole::layout_with_max_line_width;
+use masking::making::mask_into;
+use masking::numbers::length_in_one;
+use masking::pair::check_pair;
+use masking::reading::text_part;
 use pages::frame::Kind;
 use pages::whole::render_page;
 use quick::steps::LAST_QUICK;
@@ -17,6 +21,9 @@ use verify::walk::check;
 ghost use mathlib.Core.Path.{_≡_};
 ghost use Rattle.rules.specs.Result.{said};
 ghost use Rattle.scribe.specs.InC.{write-in-c, Leaves};
+ghost use Rattle.pairs.specs.Masking.{mask-outcome};
+ghost use Rattle.pairs.specs.Pair as pairs;
+ghost use Rattle.pairs.specs.Pair.{pair-answer, given-text};
 ghost use Rattle.rules.specs.Answers.{check-answer, layout-outcome, plain-outcome, body-outcome, document-outcome, coded, coded-outcome};
 
 // The file check: accepted with 0, or the first fault's number and place.
@@ -88,6 +95,42 @@ pub extern "C" fn hazomeny_html_document(file: &[u8], page: &mut [u8]) -> u64
     ensures { λ r. ⌜ (r, now (page .exit)) ≡ coded-outcome (document-outcome (now (file .entry)) (now (page .entry))) ⌝ }
 {
     in_one(html_document(file, page))
+}
+
+// The mask of a file: every byte of a text but newlines is `x`. Accepted with its length, written from the page's start; otherwise as the plain page.
+pub fn mask_file(file: &[u8], page: &mut [u8]) -> Answer
+    ensures { λ r. ⌜ (said r, now (page .exit)) ≡ mask-outcome (now (file .entry)) (now (page .entry)) ⌝ }
+{
+    mask_into(file, page)
+}
+
+#[no_mangle]
+pub extern "C" fn hazomeny_mask(file: &[u8], page: &mut [u8]) -> u64
+    ensures { λ r. ⌜ (r, now (page .exit)) ≡ coded-outcome (mask-outcome (now (file .entry)) (now (page .entry))) ⌝ }
+{
+    in_one(mask_file(file, page))
+}
+
+// Original and mask together with a place: accepted with the length of the text whose field stands there. 12 where the second is not the mask of the
+// first, 13 where no text's field stands there.
+pub fn check_texts(original: &[u8], mask: &[u8], place: usize) -> pairs::Answer
+    ensures { λ r. ⌜ pairs.said r ≡ pair-answer (now (original .entry)) (now (mask .entry)) place ⌝ }
+{
+    check_pair(original, mask, place)
+}
+
+#[no_mangle]
+pub extern "C" fn hazomeny_pair(original: &[u8], mask: &[u8], place: u32) -> u64
+    ensures { λ r. ⌜ r ≡ coded (pair-answer (now (original .entry)) (now (mask .entry)) place) ⌝ }
+{
+    length_in_one(check_texts(original, mask, place as usize))
+}
+
+// The text that a reader is given, with the right to names or without it: a part of the original or of the mask, empty where the check refuses.
+pub fn text_of_pair<'a>(original: &'a [u8], mask: &'a [u8], place: usize, names: bool) -> &'a [u8]
+    ensures { λ r. ⌜ now r ≡ given-text (now (original .entry)) (now (mask .entry)) place names ⌝ }
+{
+    text_part(original, mask, place, names)
 }
 
 // Any step, whatever stands in its way. A number that is no step's is refused by 11.

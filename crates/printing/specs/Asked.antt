@@ -6,6 +6,7 @@ use lib.ListN.{length, getD, take, drop}
 use Rattle.rules.specs.Bytes.{if_then_else_}
 use Rattle.rules.specs.Result.{Result, refused, accepted}
 use Rattle.rules.specs.Answers.{layout-outcome, plain-outcome, document-outcome}
+use Rattle.pairs.specs.Masking.{mask-outcome}
 use Rattle.printing.specs.declared.Wanted.{Wanted}
 use Rattle.printing.specs.declared.Wanted.the-variants.{PlainPage, Document}
 
@@ -13,6 +14,10 @@ use Rattle.printing.specs.declared.Wanted.the-variants.{PlainPage, Docum
 unfoldable pub with-page : Wanted → (file page : List ℕ) → List ℕ
 with-page PlainPage file page = plain-outcome file page .1
 with-page Document file page = document-outcome file page .1
+
+-- the page with the mask of a file
+unfoldable pub with-mask : (file page : List ℕ) → List ℕ
+with-mask file page = mask-outcome file page .1
 
 -- the file and the page after a layout
 unfoldable pub laid : Wanted → Result ℕ → (file page : List ℕ) → List ℕ × List ℕ

@@ -3,6 +3,7 @@
 use fields::wide;
 use hazomeny::html_document;
 use hazomeny::layout_file;
+use hazomeny::mask_file;
 use hazomeny::plain_page;
 use libc::STDOUT_FILENO;
 use rules::Answer;
@@ -12,10 +13,13 @@ use telling::end_line;
 use telling::tell_refusal;
 ghost use mathlib.Core.Path.{_≡_};
 ghost use Rattle.printing.specs.Shown.{Shown};
-ghost use Rattle.printing.specs.Asked.{with-page, laid-at, asked};
+ghost use Rattle.printing.specs.Asked.{with-page, with-mask, laid-at, asked};
 
-// Room for the input: two bytes of width, and one byte more than a file may have: a longer one is refused, and no more of it is read.
-pub const INPUT: usize = 2 + MOST_BYTES + 1;
+// Room for a file, and for one byte more than it may have: a longer one is refused, and no more of it is read.
+pub const FILE: usize = MOST_BYTES + 1;
+
+// The same behind two bytes of width.
+pub const INPUT: usize = 2 + FILE;
 
 // What is printed of the file.
 pub enum Wanted {
@@ -75,4 +79,12 @@ pub fn print_asked(wanted: Wanted, input: &mut [u8], page: &mut [u8])
     }
     let width = wide(input[0]) * 256 + wide(input[1]);
     lay_out_and_print(wanted, &mut input[2..], width, page);
+}
+
+// The mask of a file, and nothing more; or the refusal.
+pub fn print_mask(file: &[u8], page: &mut [u8])
+    ensures { λ _. ⌜ now (page .exit) ≡ with-mask (now (file .entry)) (now (page .entry)) ⌝ }
+{
+    let a = mask_file(file, page);
+    print_answer(page, a);
 }

@@ -1,0 +1,2 @@
+-- What the replay program lends.
+pub mod Lent

@@ -1,2 +1,0 @@
--- The batch keeps its length.
-pub mod Kept

@@ -1,2 +1,0 @@
--- The page keeps its length.
-pub mod Lent
