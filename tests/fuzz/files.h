@@ -216,4 +216,35 @@ static void next_file(void) {
     if (one_in(2000)) repeat();
 }
 
+/* ---- a run: PROGRAM SEED SECONDS FINDING SEEDS.. ---- */
+
+static const char *finding_path;
+static uint64_t seed, files;
+
+static void save(const char *path, const uint8_t *bytes, size_t count) {
+    FILE *to = fopen(path, "wb");
+    if (to) {
+        fwrite(bytes, 1, count, to);
+        fclose(to);
+    }
+}
+
+/* Tries one changed file after the other until the time is over; a signal is a finding. */
+static void try_files(int count, char **words, void (*try_file)(void), void (*finding)(const char *why)) {
+    if (count < 5) stop("usage: PROGRAM SEED SECONDS FINDING SEEDS..");
+    seed = seeded(words[1]);
+    const time_t end = time(NULL) + atol(words[2]);
+    finding_path = words[3];
+    read_seeds(count - 4, words + 4);
+    printf("fuzz: seed %llu, %zu files to start from\n", (unsigned long long)seed, firm);
+    fflush(stdout);
+    int number = sigsetjmp(stopped, 1);
+    if (number) finding(stopped_by(number));
+    catch_signals();
+    for (; time(NULL) < end; files++) {
+        next_file();
+        try_file();
+    }
+}
+
 #endif

@@ -14,9 +14,6 @@ enum {
 
 /* ---- where things are said about the file that is tried ---- */
 
-static const char *finding_path;
-static uint64_t seed, files;
-
 /* What is being done, for a finding. */
 static struct {
     const char *entry, *where;
@@ -27,11 +24,7 @@ static struct {
 static void finding(const char *why) {
     fprintf(stderr, "fuzz: %s\n  %s, lent flush %s a guard, width %zu, room %zu, a file of %zu bytes: %s\n  seed %llu, file %llu\n", why, now.entry,
             now.where, now.width, now.room, length, finding_path, (unsigned long long)seed, (unsigned long long)files);
-    FILE *to = fopen(finding_path, "wb");
-    if (to) {
-        fwrite(file, 1, length, to);
-        fclose(to);
-    }
+    save(finding_path, file, length);
     exit(1);
 }
 
@@ -219,21 +212,8 @@ static void make_room(void) {
 }
 
 int main(int count, char **words) {
-    if (count < 5) stop("usage: fuzz SEED SECONDS FINDING SEEDS..");
-    seed = seeded(words[1]);
-    const time_t end = time(NULL) + atol(words[2]);
-    finding_path = words[3];
-    read_seeds(count - 4, words + 4);
     make_room();
-    printf("fuzz: seed %llu, %zu files to start from\n", (unsigned long long)seed, firm);
-    fflush(stdout);
-    int number = sigsetjmp(stopped, 1);
-    if (number) finding(stopped_by(number));
-    catch_signals();
-    for (; time(NULL) < end; files++) {
-        next_file();
-        try_file();
-    }
+    try_files(count, words, try_file, finding);
     tell();
     return 0;
 }

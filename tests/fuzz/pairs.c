@@ -24,8 +24,6 @@ enum {
 
 static uint8_t second[MOST_FILE];
 static size_t second_length;
-static const char *finding_path;
-static uint64_t seed, files;
 
 /* What is being done, for a finding. */
 static struct {
@@ -33,14 +31,6 @@ static struct {
     size_t room;
     uint32_t place;
 } now = {"none", "", 0, 0};
-
-static void save(const char *path, const uint8_t *bytes, size_t count) {
-    FILE *to = fopen(path, "wb");
-    if (to) {
-        fwrite(bytes, 1, count, to);
-        fclose(to);
-    }
-}
 
 /* Says what was found, keeps the files and stops. */
 static void finding(const char *why) {
@@ -300,21 +290,9 @@ static void make_room(void) {
 }
 
 int main(int count, char **words) {
-    if (count < 5) stop("usage: pairs SEED SECONDS FINDING SEEDS..");
-    seed = seeded(words[1]);
-    const time_t end = time(NULL) + atol(words[2]);
-    finding_path = words[3];
-    read_seeds(count - 4, words + 4);
     make_room();
-    printf("fuzz: seed %llu, masks and pairs, %zu files to start from\n", (unsigned long long)seed, firm);
-    fflush(stdout);
-    int number = sigsetjmp(stopped, 1);
-    if (number) finding(stopped_by(number));
-    catch_signals();
-    for (; time(NULL) < end; files++) {
-        next_file();
-        try_file();
-    }
+    printf("fuzz: masks and pairs\n");
+    try_files(count, words, try_file, finding);
     tell();
     return 0;
 }

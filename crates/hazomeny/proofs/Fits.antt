@@ -1,6 +1,6 @@
 -- Every answer's number fits 64 bits and loses nothing: places and counts are at most a file's length, a page is shorter than 2^24 bytes, and refusals
 -- have numbers of 1 to 255.
-use Rattle.rules.proofs.Basics.{_≡_, refl, sym, subst, _∙_, ap, List, [], _∷_, none, some, Bool, true, false, ℕ, suc, _+_, _≤_, _^_, _<_, arith, leb, eqb, length, getD, leb-true}
+use Rattle.rules.proofs.Basics.{_≡_, refl, sym, subst, _∙_, ap, List, [], _∷_, none, some, Bool, true, false, ℕ, suc, _≤_, _^_, _<_, arith, leb, eqb, length, getD, leb-true}
 use mathlib.Core.Option.{Option}
 use Rattle.rules.specs.Limits.{most-bytes, most-columns}
 use Rattle.rules.specs.Bytes.{newline, if_then_else_}

@@ -1,19 +1,16 @@
 -- What `mask_file` leaves, put through layout and each page's entry: the file and its mask are two files as in demand 3, of the entries' contracts.
-use Rattle.rules.proofs.Basics.{_≡_, refl, sym, ap, subst, _∙_, List, _++_, Bool, true, false, ℕ, _≤_, arith, leb, length, take, drop, take-at}
+use Rattle.rules.proofs.Basics.{_≡_, refl, sym, ap, _∙_, List, _++_, Bool, true, false, ℕ, leb, length, take, drop, take-at}
 use Rattle.rules.specs.declared.Answer.{Answer}
-use Rattle.rules.specs.declared.Answer.the-variants.{Done}
 use Rattle.rules.specs.Result.{Result, refused, accepted, said, _>>=_}
 use Rattle.rules.specs.Tree.{Frag}
 use Rattle.rules.specs.Good.{Bytes}
-use Rattle.rules.specs.Answers.{tree, check-answer, layout-outcome, left-page, written, coded, coded-outcome, decoded}
-use Rattle.rules.specs.Mask.{newlines, newlines-and-escapes, mask}
+use Rattle.rules.specs.Answers.{tree, check-answer, layout-outcome, left-page, written}
+use Rattle.rules.specs.Mask.{newlines, mask}
 use Rattle.rules.specs.Alike.{AlikeFiles, SameLayout, Page, plain-page, html-body, html-document, outcome-of, kept, OneList}
 use Rattle.rules.proofs.Chains.{no-path}
 use Rattle.rules.proofs.Masked.{file-and-mask}
-use Rattle.rules.proofs.Unique.{coded-outcome-back}
 use Rattle.pairs.specs.Masking.{mask-text, mask-outcome}
 use Rattle.pairs.proofs.Masks.{NoEscapes, escapes, tree-passes, mask-accepted}
-use Rattle.hazomeny.proofs.Fits.{Told, told-mask}
 use Rattle.hazomeny.proofs.Demand3.{layout-alike, page-alike}
 
 -- the bytes in front are the mask of an accepted file

@@ -1,6 +1,5 @@
 -- The writer's C name: a number that is no step's, and a step.
-use Rattle.rules.proofs.Basics.{_≡_, refl, sym, ap, ap₂, subst, _∙_, List, [], _∷_, ℕ, _+_, _*_, _≤_, _<_, arith, Bool, true, false, leb, le-leb, lt-leb, length, getD, set}
-use Rattle.rules.specs.Result.{refused}
+use Rattle.rules.proofs.Basics.{_≡_, refl, ap, ap₂, subst, _∙_, List, [], ℕ, _+_, _*_, _≤_, _<_, arith, le-leb, lt-leb, getD, set}
 use Rattle.rules.specs.Answers.{coded}
 use Rattle.moves.specs.declared.Op.{Op}
 use Rattle.moves.specs.declared.Style.{Style}
@@ -8,7 +7,7 @@ use Rattle.moves.specs.declared.Moved.{Moved}
 use Rattle.moves.specs.Stepped.{State, said, Says, stepped}
 use Rattle.scribe.specs.declared.stepping.Spot.{Spot}
 use Rattle.quick.specs.Quick.{Quick, not-here, done}
-use Rattle.scribe.specs.InC.{numbered, style-in, last-step, Left, left-by, left-in-c, write-in-c, Leaves}
+use Rattle.scribe.specs.InC.{numbered, style-in, last-step, left-by, left-in-c, write-in-c, Leaves}
 
 pub unknown-step : (step : ℕ) (style text b ns : List ℕ) {at : ℕ} → at ≡ getD ns 0 0 → last-step < step → Leaves (at * 256 + 11) b ns (write-in-c step style text b ns)
 unfolding write-in-c left-in-c coded

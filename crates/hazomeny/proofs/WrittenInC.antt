@@ -1,5 +1,5 @@
 -- The writer's C name, and the promises over `moves`' contract: each call by numbers is one call there.
-use Rattle.rules.proofs.Basics.{_≡_, refl, sym, ap, _∙_, List, [], _∷_, Bool, true, false, ℕ, _+_, _*_, _≤_, arith, le-leb, length, getD, set}
+use Rattle.rules.proofs.Basics.{_≡_, refl, sym, ap, _∙_, List, [], _∷_, Bool, true, false, ℕ, _+_, _*_, _≤_, arith, le-leb}
 use Rattle.rules.proofs.Chains.{no-path}
 use Rattle.rules.specs.Result.{Result, refused, accepted, _>>_, need, Check, _or-refuse_, sound}
 use Rattle.rules.specs.Answers.{coded, decoded}
@@ -7,7 +7,7 @@ use Rattle.rules.proofs.Unique as unique
 use Rattle.moves.specs.declared.Op.{Op}
 use Rattle.moves.specs.declared.Style.{Style}
 use Rattle.moves.specs.Plans.{plan-checks}
-use Rattle.moves.specs.Stepped.{Written, State, left, fitting, planned, answered, stepped}
+use Rattle.moves.specs.Stepped.{Written, left, fitting, planned, answered, stepped}
 use Rattle.moves.specs.Asked.{Call, Held, held-after, called}
 use Rattle.moves.specs.ReadOff.{Sized}
 use Rattle.scribe.proofs.CheckLaws.{Numbered, plan-numbered}

@@ -1,5 +1,6 @@
--- How far the public contracts reach: no second outcome satisfies one, and each of document 01's five wrong programs fails one at an input named here.
-use Rattle.rules.proofs.Basics.{_≡_, refl, sym, _∙_, ap, List, [], ℕ, _+_, arith, length, getD, replicate}
+-- How far the public contracts reach: no second outcome satisfies one, and each of document 01's five wrong programs fails one at an input named here; so
+-- do a mask that hides nothing and a check that takes any two files for a pair.
+use Rattle.rules.proofs.Basics.{_≡_, refl, sym, _∙_, ap, List, [], ℕ, _+_, _<_, _^_, arith, length, getD, replicate}
 use Rattle.rules.specs.declared.Refusal.{Refusal}
 use Rattle.rules.specs.declared.Answer.{Answer}
 use Rattle.rules.specs.declared.Answer.the-variants.{Done, Refused}
@@ -13,7 +14,11 @@ use Rattle.rules.specs.Cases.{unhex, call}
 use Rattle.rules.proofs.Chains.{no-path}
 use Rattle.rules.proofs.Open.{all-open}
 use Rattle.rules.proofs.Unique.{said-unique, outcome-unique, coded-back, coded-outcome-back}
-use Rattle.hazomeny.proofs.Fits.{told-check, told-layout, told-page}
+use Rattle.pairs.specs.Masking.{mask-text, mask-outcome}
+use Rattle.pairs.specs.Pair.{first-difference, same, or-else, text-in, found-or, text-at, pair-text, length-of, pair-answer}
+use Rattle.pairs.specs.Pair as pairs
+use Rattle.pairs.specs.declared.Answer as Pair
+use Rattle.hazomeny.proofs.Fits.{told-check, told-layout, told-page, told-mask, told-pair}
 
 -- ---- NO SECOND OUTCOME SATISFIES A CONTRACT: two answers that do, and the bytes left with them, are equal
 
@@ -26,6 +31,19 @@ layout-determined w s = outcome-unique (layout-outcome w s)
 pub page-determined : (k : Page) (s q : List ℕ) (a b : Answer) (r u : List ℕ) → (said a, r) ≡ outcome-of k s q → (said b, u) ≡ outcome-of k s q → (a ≡ b) × (r ≡ u)
 page-determined k s q = outcome-unique (outcome-of k s q)
 
+pub mask-determined : (s q : List ℕ) (a b : Answer) (r u : List ℕ) → (said a, r) ≡ mask-outcome s q → (said b, u) ≡ mask-outcome s q → (a ≡ b) × (r ≡ u)
+mask-determined s q = outcome-unique (mask-outcome s q)
+
+pub pair-determined : (o m : List ℕ) (p : ℕ) (a b : Pair.Answer) → pairs.said a ≡ pair-answer o m p → pairs.said b ≡ pair-answer o m p → a ≡ b
+unfolding pairs.said
+pair-determined o m p a b x y = go a b (x ∙ sym y)
+  where
+    go : (a b : Pair.Answer) → pairs.said a ≡ pairs.said b → a ≡ b
+    go (Pair.the-variants.Length n) (Pair.the-variants.Length k) e = cc
+    go (Pair.the-variants.Refused n p) (Pair.the-variants.Refused k q) e = cc
+    go (Pair.the-variants.Length n) (Pair.the-variants.Refused k q) e = no-path cc
+    go (Pair.the-variants.Refused n p) (Pair.the-variants.Length k) e = no-path cc
+
 -- the number that a C name answers is fixed by its contract, and says the outcome
 pub check-said-in-c : (s : List ℕ) (n : ℕ) → n ≡ coded (check-answer s) → decoded n ≡ check-answer s
 check-said-in-c s n e = ap decoded e ∙ coded-back (check-answer s) (told-check s .numbered)
@@ -35,6 +53,12 @@ layout-said-in-c w s = coded-outcome-back (layout-outcome w s) (told-layout w s 
 
 pub page-said-in-c : (k : Page) (s q : List ℕ) → Bytes s → (n : ℕ) (r : List ℕ) → (n, r) ≡ coded-outcome (outcome-of k s q) → (decoded n, r) ≡ outcome-of k s q
 page-said-in-c k s q b = coded-outcome-back (outcome-of k s q) (told-page k s q b .numbered)
+
+pub mask-said-in-c : (s q : List ℕ) → Bytes s → (n : ℕ) (r : List ℕ) → (n, r) ≡ coded-outcome (mask-outcome s q) → (decoded n, r) ≡ mask-outcome s q
+mask-said-in-c s q b = coded-outcome-back (mask-outcome s q) (told-mask s q b .numbered)
+
+pub pair-said-in-c : (o m : List ℕ) (p : ℕ) → p < 2 ^ 32 → Bytes o → Bytes m → (n : ℕ) → n ≡ coded (pair-answer o m p) → decoded n ≡ pair-answer o m p
+pair-said-in-c o m p l b c n e = ap decoded e ∙ coded-back (pair-answer o m p) (told-pair o m p l b c .numbered)
 
 -- ---- 1. CODE THAT REFUSES EVERYTHING: at the empty file, with a page that is long enough, no refusal satisfies a contract
 
@@ -135,3 +159,19 @@ layout-counts w s n t e = go (laid-out w s) e
         let h : _≡_ {A = Result ℕ} (accepted n) (accepted (length (changed 0 s (encode u)))) = ap (λ o. o .0) e in
         let count : n ≡ length (changed 0 s (encode u)) = cc in
         count ∙ ap (λ (t : List ℕ). length (changed 0 s t)) (sym (ap (λ o. o .1) e))
+
+-- ---- A MASK THAT HIDES NOTHING: of the file of the text `y` the byte does not stay
+
+pub mask-hides : (a : Answer) (r : List ℕ) → (said a, r) ≡ mask-outcome y-file (replicate 7 0) → getD r 6 0 ≡ 121 → ⊥
+unfolding all-open mask-outcome mask-text y-file
+mask-hides a r e shown = omega (arith, ap (λ o. getD (o .1) 6 0) e)
+
+-- ---- A CHECK THAT TAKES ANY TWO FILES FOR A PAIR: the file of `y` is no mask of itself; of its mask the text has one byte
+
+pub no-mask-of-itself : pair-answer y-file y-file 3 ≡ refused 12 6
+unfolding all-open pair-answer length-of pair-text text-at found-or text-in or-else same first-difference y-file
+no-mask-of-itself = refl
+
+pub its-mask : pair-answer y-file x-file 3 ≡ accepted 1
+unfolding all-open pair-answer length-of pair-text text-at found-or text-in or-else same first-difference x-file y-file
+its-mask = refl

@@ -1,9 +1,8 @@
 -- The search for a text, field by field.
-use Rattle.rules.proofs.Basics.{_≡_, refl, sym, ap, _∙_, List, Bool, true, false, _&&_, none, some, ℕ, zero, suc, _+_, _-_, _<_, _≤_, arith, eqb, length}
-use mathlib.Core.Option.{Option}
+use Rattle.rules.proofs.Basics.{_≡_, refl, sym, _∙_, List, Bool, true, false, _&&_, none, some, ℕ, zero, suc, _+_, _-_, _<_, _≤_, arith, eqb, length}
 use Rattle.rules.specs.Mask.{is-text}
 use Rattle.fields.specs.declared.Field.{Field}
-use Rattle.fields.specs.declared.Field.the-variants.{Whole, Past, Cut}
+use Rattle.fields.specs.declared.Field.the-variants.{Whole}
 use Rattle.fields.specs.FieldAt.{field-at}
 use Rattle.fields.proofs.Laws.{cut, NotWhole, not-whole}
 use Rattle.pairs.specs.Flat.{next-place, length-past, length-from, length-at-place}

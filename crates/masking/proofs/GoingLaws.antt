@@ -1,24 +1,18 @@
 -- The mask of the fields passed so far, one field after the other.
-use Rattle.rules.proofs.Basics.{_≡_, refl, sym, ap, ap₂, subst, _∙_, List, [], _∷_, _++_, append-assoc, append-nil, min, max, map, Bool, true, false, ℕ, zero, suc, _+_, _-_, _<_, _≤_, arith, length, length-map, length-append, length-take-le, length-take, length-drop, length-replicate, replicate, take, drop}
+use Rattle.rules.proofs.Basics.{_≡_, refl, sym, ap, ap₂, subst, _∙_, List, [], _∷_, _++_, append-assoc, append-nil, Bool, true, false, ℕ, zero, suc, _+_, _-_, _<_, _≤_, arith, length, length-map, length-append, length-take-le, length-drop, length-replicate, replicate, take, drop}
 use lib.Seq.{take-add}
 use Rattle.rules.specs.Mask.{is-text, newlines, mask-byte, mask-bytes}
 use Rattle.fields.specs.declared.Field.{Field}
-use Rattle.fields.specs.declared.Field.the-variants.{Whole, Past, Cut}
+use Rattle.fields.specs.declared.Field.the-variants.{Whole}
 use Rattle.fields.specs.FieldAt.{field-at}
-use Rattle.fields.proofs.Laws.{cut, at-the-end, is-whole, IsWhole, NotWhole, not-whole}
+use Rattle.fields.proofs.Laws.{cut, is-whole, IsWhole, NotWhole, not-whole}
 use Rattle.writing.specs.Written.{Written, last, moved}
 use Rattle.writing.proofs.Laws.{nothing, then, kept}
+use Rattle.pairs.proofs.MaskBytes.{mask-append, mask-text-bytes}
 use Rattle.pairs.specs.Flat.{is-holder, next-place, flags-of, flags-past, flags-from, flags}
 use Rattle.masking.specs.Value.{veiled, mask-value, flat-mask}
 
--- ---- the mask of one list behind another
-
-mask-append : (ms ns : List Bool) (a b : List ℕ) → length ms ≡ length a → mask-bytes newlines (ms ++ ns) (a ++ b) ≡ mask-bytes newlines ms a ++ mask-bytes newlines ns b
-unfolding mask-bytes
-mask-append [] ns [] b e = refl
-mask-append [] ns (x ∷ a) b e = absurd (omega arith)
-mask-append (m ∷ ms) ns [] b e = absurd (omega arith)
-mask-append (m ∷ ms) ns (x ∷ a) b e = ap (mask-byte newlines m x ∷_) (mask-append ms ns a b (omega arith))
+-- ---- the mask of a header and of a value
 
 -- a header stays
 mask-header : (h : List ℕ) → length h ≡ 3 → mask-bytes newlines (false ∷ false ∷ false ∷ []) h ≡ h
@@ -31,8 +25,7 @@ mask-header (a ∷ b ∷ c ∷ d ∷ h) e = refl
 
 mask-run : (x : Bool) (v : List ℕ) → mask-bytes newlines (replicate (length v) x) v ≡ mask-value x v
 unfolding mask-bytes mask-byte mask-value veiled
-mask-run true [] = refl
-mask-run true (b ∷ v) = ap (mask-byte newlines true b ∷_) (mask-run true v)
+mask-run true v = mask-text-bytes v
 mask-run false [] = refl
 mask-run false (b ∷ v) = ap (b ∷_) (mask-run false v)
 

@@ -1,27 +1,22 @@
 -- What is answered and left when a mask is made.
-use Rattle.rules.proofs.Basics.{_≡_, refl, sym, ap, ap₂, _∙_, List, [], _∷_, Bool, ℕ, suc, leb, _≤_, _<_, arith, length, take, take-all, le-leb, lt-leb}
+use Rattle.rules.proofs.Basics.{_≡_, refl, sym, ap, ap₂, _∙_, List, [], Bool, ℕ, leb, _≤_, _<_, arith, length, take, take-all, le-leb, lt-leb}
 use Rattle.rules.specs.declared.Answer.{Answer}
 use Rattle.rules.specs.declared.Answer.the-variants.{Done, Refused}
 use Rattle.rules.specs.declared.Refusal.{Refusal}
-use Rattle.rules.specs.Result.{Result, refused, accepted, said, _>>=_}
+use Rattle.rules.specs.Result.{refused, accepted, said, _>>=_}
 use Rattle.rules.specs.Good.{Bytes}
-use Rattle.rules.specs.Encode.{encode-fields, frag-fields, encode}
-use Rattle.rules.specs.Answers.{tree, check-answer, left-page, written}
-use Rattle.rules.specs.Mask.{in-texts, accepted-texts, text-places, newlines, mask-bytes, mask}
+use Rattle.rules.specs.Encode.{frag-fields, encode}
+use Rattle.rules.specs.Answers.{check-answer, left-page, written}
+use Rattle.rules.specs.Mask.{accepted-texts, text-places, newlines, mask-bytes, mask}
 use Rattle.verify.proofs.Verdicts.{RefusedSo, refused-so, AcceptedAs, accepted-as}
 use Rattle.writing.specs.Written.{last, Written}
 use Rattle.writing.proofs.Laws.{fits}
 use Rattle.pairs.specs.Masking.{mask-text, mask-outcome}
 use Rattle.pairs.specs.Flat.{flags}
 use Rattle.pairs.proofs.OfFiles.{flags-of-file}
+use Rattle.pairs.proofs.MaskBytes.{mask-long}
 use Rattle.pairs.proofs.Pairs.{texts-length}
 use Rattle.masking.specs.Value.{flat-mask}
-
-pub as-long : (ms : List Bool) (s : List ℕ) → length (mask-bytes newlines ms s) ≡ length s
-unfolding mask-bytes
-as-long [] s = refl
-as-long (m ∷ ms) [] = refl
-as-long (m ∷ ms) (b ∷ s) = ap suc (as-long ms s)
 
 module _ (s page : List ℕ) where
   pub mask-refused : (a : Answer) {r : Refusal} → a ≡ Refused r → said a ≡ check-answer s → (said a, page) ≡ mask-outcome s page
@@ -46,20 +41,20 @@ module _ (s page : List ℕ) where
     unfolding flat-mask mask
     flat-is = ap₂ (λ (ms : List Bool) (x : List ℕ). mask-bytes newlines ms x) flags-are (ap (λ (k : ℕ). take k s) flags-long ∙ take-all (length s) s (omega arith))
 
-    mask-long : length (mask newlines s) ≡ length s
+    as-long : length (mask newlines s) ≡ length s
     unfolding mask
-    mask-long = as-long (text-places s) s
+    as-long = mask-long (text-places s) s
 
     outcome-is : mask-outcome s page ≡ written (leb (length s) (length page)) (mask newlines s) page
     unfolding mask-outcome mask-text left-page _>>=_
-    outcome-is = rw (A .its-tree, mask-long)
+    outcome-is = rw (A .its-tree, as-long)
 
     pub mask-too-short : length page < length s → (refused 10 (length s), page) ≡ mask-outcome s page
     unfolding written
-    mask-too-short h = rw (outcome-is, lt-leb (length s) (length page) h, mask-long) refl
+    mask-too-short h = rw (outcome-is, lt-leb (length s) (length page) h, as-long) refl
 
     pub mask-made : {r : ℕ} {page′ : List ℕ} → length s ≤ last → length s ≤ length page → Written page 0 (flat-mask s) page′ r → (accepted (length s), page′) ≡ mask-outcome s page
     unfolding written
     mask-made {page′ = page′} z h w =
         let w′ : Written page 0 (mask newlines s) page′ _ = rw flat-is at w in
-        rw (outcome-is, le-leb (length s) (length page) h, fits w′ (omega (arith, mask-long, z)) (omega (arith, mask-long, h)), mask-long) refl
+        rw (outcome-is, le-leb (length s) (length page) h, fits w′ (omega (arith, as-long, z)) (omega (arith, as-long, h)), as-long) refl

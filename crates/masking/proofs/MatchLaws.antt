@@ -8,6 +8,7 @@ use Rattle.fields.specs.declared.Field.the-variants.{Whole}
 use Rattle.fields.specs.FieldAt.{field-at}
 use Rattle.fields.proofs.Laws.{NotWhole, not-whole}
 use Rattle.pairs.specs.Pair.{first-difference}
+use Rattle.pairs.proofs.MaskBytes.{mask-long, mask-at}
 use Rattle.pairs.proofs.Pairs.{Agree, agree-none, first-difference-is}
 use Rattle.pairs.specs.Flat.{next-place, flags-past, flags-from, flags}
 use Rattle.masking.specs.Off.{Off, OffField}
@@ -82,19 +83,6 @@ module _ {o m : List ℕ} {text : Bool} {at from end r : ℕ} (e : from ≡ min 
       }
 
 -- ---- the mask, place by place
-
-mask-long : (ms : List Bool) (s : List ℕ) → length (mask-bytes newlines ms s) ≡ length s
-unfolding mask-bytes
-mask-long [] s = refl
-mask-long (m ∷ ms) [] = refl
-mask-long (m ∷ ms) (b ∷ s) = ap suc (mask-long ms s)
-
-mask-at : (ms : List Bool) (s : List ℕ) (k : ℕ) → k < length s → getD (mask-bytes newlines ms s) k 0 ≡ mask-byte newlines (getD ms k false) (getD s k 0)
-unfolding mask-bytes mask-byte
-mask-at [] s k l = refl
-mask-at (m ∷ ms) [] k l = absurd (omega arith)
-mask-at (m ∷ ms) (b ∷ s) zero l = refl
-mask-at (m ∷ ms) (b ∷ s) (suc k) l = mask-at ms s k (omega arith)
 
 behind : (a b : List Bool) (n k : ℕ) → length a ≡ n → n ≤ k → getD (a ++ b) k false ≡ getD b (k - n) false
 behind a b n k e l =

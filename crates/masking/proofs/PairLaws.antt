@@ -1,19 +1,16 @@
 -- What is answered of a file and its mask: need by need.
-use Rattle.rules.proofs.Basics.{_≡_, refl, sym, ap, ap₂, _∙_, List, Bool, true, false, _&&_, none, some, ℕ, _≤_, arith, eqb, length, ne-eqb, eq-eqb}
-use mathlib.Core.Option.{Option}
+use Rattle.rules.proofs.Basics.{_≡_, refl, sym, ap, _∙_, List, Bool, true, false, _&&_, ℕ, _≤_, eqb, length, ne-eqb, eq-eqb}
 use Rattle.rules.specs.declared.Answer.{Answer}
 use Rattle.rules.specs.declared.Answer.the-variants.{Done, Refused}
 use Rattle.rules.specs.declared.Refusal.{Refusal}
 use Rattle.rules.specs.Result as rules
 use Rattle.rules.specs.Result.{Result, refused, accepted, refusal, need, _>>=_, _>>_}
-use Rattle.rules.specs.Limits.{most-bytes}
 use Rattle.rules.specs.Good.{Bytes}
 use Rattle.rules.specs.Answers.{tree, check-answer}
 use Rattle.rules.specs.Mask.{newlines, mask-bytes, mask}
-use Rattle.rules.proofs.Files.{Read}
 use Rattle.rules.specs.Encode.{encode}
 use Rattle.rules.specs.Mask.{text-places}
-use Rattle.masking.proofs.MaskLaws.{as-long}
+use Rattle.pairs.proofs.MaskBytes.{mask-long}
 use Rattle.verify.proofs.Verdicts.{RefusedSo, refused-so, AcceptedAs, accepted-as}
 use Rattle.pairs.specs.Pair.{said, first-difference, same, text-at, pair-text, length-of, pair-answer}
 use Rattle.pairs.specs.Flat.{flags, length-at-place, found-length}
@@ -56,14 +53,14 @@ module _ (o m : List ℕ) (p : ℕ) {d : ℕ} (e : d ≡ first-difference m (mas
   pub not-as-long : {n k : ℕ} → n ≡ length m → k ≡ length o → d ≡ n → (d ≡ k → ⊥) → refused 12 d ≡ flat-answer o m p
   unfolding same
   not-as-long q r i h =
-      let l : length its-mask ≡ length o = as-long (flags o) o in
+      let l : length its-mask ≡ length o = mask-long (flags o) o in
       let z : length m ≡ length its-mask → ⊥ = λ y. h (i ∙ q ∙ y ∙ l ∙ sym r) in
       refused-12 (rw (ne-eqb (length m) (length its-mask) z))
 
   pub all-same : {n k : ℕ} {a : Result ℕ} → n ≡ length m → k ≡ length o → d ≡ n → d ≡ k → a ≡ found-length p (length-at-place o p) → a ≡ flat-answer o m p
   unfolding same flat-answer need _>>_
   all-same q r i h w =
-      let l : length its-mask ≡ length o = as-long (flags o) o in
+      let l : length its-mask ≡ length o = mask-long (flags o) o in
       let x : length m ≡ length its-mask = sym q ∙ sym i ∙ h ∙ r ∙ sym l in
       let y : first-difference m its-mask ≡ length m = sym e ∙ i ∙ q in
       w ∙ rw (eq-eqb (length m) (length its-mask) x, eq-eqb (first-difference m its-mask) (length m) y)

@@ -1,11 +1,11 @@
 -- The text that a reader is given: a part of the one file or the other.
-use Rattle.rules.proofs.Basics.{_≡_, refl, sym, ap, _∙_, List, [], Bool, true, false, ℕ, _+_, _-_, _≤_, arith, length, take, drop}
-use Rattle.rules.specs.Result.{Result, refused, accepted}
+use Rattle.rules.proofs.Basics.{_≡_, sym, ap, _∙_, List, [], Bool, true, false, ℕ, _+_, _-_, _≤_, arith, length, take, drop}
+use Rattle.rules.specs.Result.{accepted}
 use Rattle.rules.specs.Good.{Bytes}
 use Rattle.pairs.specs.declared.Answer.{Answer}
 use Rattle.pairs.specs.declared.Answer.the-variants.{Length, Refused}
 use Rattle.pairs.specs.Pair.{said, pair-answer, part-of, given-text}
-use Rattle.pairs.proofs.Pairs.{PairIs, pair-is}
+use Rattle.pairs.proofs.Pairs.{pair-is}
 
 module _ (o m : List ℕ) (p : ℕ) (a : Answer) (e : said a ≡ pair-answer o m p) where
   pub nothing-given : (names : Bool) {n q : ℕ} → a ≡ Refused n q → [] ≡ given-text o m p names

@@ -1,6 +1,6 @@
 -- What a tag is not, and a byte of a text in the mask.
-use Rattle.rules.proofs.Basics.{_≡_, refl, ℕ, Bool, true, false, _||_, eqb, ne-eqb}
-use Rattle.rules.specs.Bytes.{if_then_else_, has}
+use Rattle.rules.proofs.Basics.{_≡_, ℕ, true, false, eqb, ne-eqb}
+use Rattle.rules.specs.Bytes.{has}
 use Rattle.rules.specs.Walk.{holds}
 use Rattle.rules.specs.Mask.{is-text, newlines, mask-byte}
 use Rattle.pairs.specs.Flat.{is-some, is-holder}

@@ -1,5 +1,5 @@
 -- A text's mask written byte by byte, and at once to a page.
-use Rattle.rules.proofs.Basics.{_≡_, refl, sym, ap, _∙_, List, [], _∷_, _++_, map, true, false, Bool, ℕ, zero, suc, _+_, _-_, _<_, _≤_, arith, length, length-map, getD, set, take, drop}
+use Rattle.rules.proofs.Basics.{_≡_, refl, sym, _∙_, List, [], _∷_, _++_, map, true, ℕ, zero, suc, _+_, _-_, _<_, _≤_, arith, length, length-map, getD, set, take, drop}
 use Rattle.rules.specs.Mask.{newlines, mask-byte}
 use Rattle.masking.specs.Value.{veiled}
 use Rattle.writing.specs.Written.{Written, last}

@@ -1,7 +1,7 @@
 -- What is answered of two files, the first of which is accepted, by its fields one after the other.
 use mathlib.Core.List.{List}
 use Prim.Native.Nat.{ℕ}
-use Rattle.rules.specs.Result.{Result, accepted, need, _>>=_, _>>_}
+use Rattle.rules.specs.Result.{Result, need, _>>=_, _>>_}
 use Rattle.rules.specs.Answers.{tree}
 use Rattle.rules.specs.Mask.{newlines, mask-bytes}
 use Rattle.pairs.specs.Pair.{first-difference, same}

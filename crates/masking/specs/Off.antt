@@ -1,7 +1,7 @@
 -- Where two lists first differ, the one being the other's mask up to there.
 use mathlib.Core.Path.{_≡_}
 use mathlib.Core.List.{List}
-use mathlib.Core.Bool.{Bool, false}
+use mathlib.Core.Bool.{Bool}
 use Prim.Native.Nat.{ℕ, _+_, _<_, _≤_}
 use lib.ListN.{getD}
 use Rattle.rules.specs.Mask.{newlines, mask-byte}

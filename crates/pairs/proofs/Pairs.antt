@@ -16,6 +16,7 @@ use Rattle.rules.proofs.Files.{tree-read, Read}
 use Rattle.pairs.specs.Pair.{first-difference, same, or-else, text-in, found-or, text-at, pair-text, length-of, pair-answer, part-of, given-text}
 use Rattle.pairs.specs.Flat.{length-at-place, found-length}
 use Rattle.pairs.proofs.OfFiles.{length-in, length-of-file}
+use Rattle.pairs.proofs.MaskBytes.{mask-append, mask-text-bytes, mask-long}
 use Rattle.pairs.proofs.Masks.{its-tree, tree-passes, mask-accepted, mask-lengths}
 
 -- ---- whether two lists are the same, and where they differ
@@ -243,25 +244,6 @@ text-found (inside t j r) a p v e = go (text-in j (a + 3) p) refl e (λ q. text-
         found-behind (field t (encode-fields j)) (false ∷ false ∷ false ∷ in-texts j) a p (omega (arith, texts-length j)) (omega arith) (more e) (inside t j r) refl refl
 
 -- ---- what stands there in the file, and in its mask
-
--- masked list by list
-mask-append : (cs ds : List Bool) (a b : List ℕ) → length cs ≡ length a → mask-bytes newlines (cs ++ ds) (a ++ b) ≡ mask-bytes newlines cs a ++ mask-bytes newlines ds b
-unfolding mask-bytes
-mask-append [] ds [] b l = refl
-mask-append [] ds (x ∷ a) b l = absurd (omega arith)
-mask-append (c ∷ cs) ds [] b l = absurd (omega arith)
-mask-append (c ∷ cs) ds (x ∷ a) b l = ap (mask-byte newlines c x ∷_) (mask-append cs ds a b (omega arith))
-
-mask-text-bytes : (v : List ℕ) → mask-bytes newlines (replicate (length v) true) v ≡ map (mask-byte newlines true) v
-unfolding mask-bytes
-mask-text-bytes [] = refl
-mask-text-bytes (x ∷ v) = ap (mask-byte newlines true x ∷_) (mask-text-bytes v)
-
-mask-long : (cs : List Bool) (s : List ℕ) → length (mask-bytes newlines cs s) ≡ length s
-unfolding mask-bytes
-mask-long [] s = refl
-mask-long (c ∷ cs) [] = refl
-mask-long (c ∷ cs) (b ∷ s) = ap suc (mask-long cs s)
 
 -- a part of three
 middle : (x v y : List ℕ) (n m : ℕ) → length x ≡ m → length v ≡ n → take n (drop m (x ++ (v ++ y))) ≡ v
