@@ -23,6 +23,14 @@ unsafe impl GlobalAlloc for Counting {
         NOW.fetch_sub(layout.size(), Relaxed);
         System.dealloc(place, layout);
     }
+
+    // Without this, a block that grows would be copied where the system may extend it, which the Rust's growing page would pay for.
+    unsafe fn realloc(&self, place: *mut u8, layout: Layout, size: usize) -> *mut u8 {
+        let now = NOW.fetch_add(size, Relaxed) + size - layout.size();
+        MOST.fetch_max(now, Relaxed);
+        NOW.fetch_sub(layout.size(), Relaxed);
+        System.realloc(place, layout, size)
+    }
 }
 
 #[global_allocator]

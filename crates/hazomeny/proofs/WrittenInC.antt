@@ -9,7 +9,7 @@ use Rattle.moves.specs.declared.Style.{Style}
 use Rattle.moves.specs.Plans.{plan-checks}
 use Rattle.moves.specs.Stepped.{Written, left, fitting, planned, answered, stepped}
 use Rattle.moves.specs.Asked.{Call, Held, held-after, called}
-use Rattle.moves.specs.ReadOff.{Sized}
+use Rattle.moves.specs.Calls.{Sized}
 use Rattle.scribe.proofs.CheckLaws.{Numbered, plan-numbered}
 use Rattle.scribe.specs.InC.{numbered, style-in, last-step, Left, left-by, left-in-c, write-in-c, Leaves}
 

@@ -10,7 +10,7 @@ use Rattle.moves.specs.declared.Op.{Op}
 use Rattle.moves.specs.declared.Op.the-variants as op
 use Rattle.moves.specs.Plans.{fragment-here, plan, puts, shuts, opens, begins, next-plan, end-space-plan, end-comma-plan}
 use Rattle.moves.specs.Asked.{asked}
-use Rattle.moves.specs.ReadOff.{is-some}
+use Rattle.moves.specs.Calls.{is-some}
 use Rattle.moves.proofs.Codes.{around-kind, kind-of, has-nodes, Owns}
 
 unfoldable pub is-accepted : {A : Type 0} → Result A → Bool

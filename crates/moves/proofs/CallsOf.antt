@@ -13,7 +13,7 @@ use Rattle.moves.specs.declared.Op.{Op}
 use Rattle.moves.specs.declared.Op.the-variants as op
 use Rattle.moves.specs.Style.{style-fields, there, style-of, run}
 use Rattle.moves.specs.Asked.{Call, asked, before-others, script, calls}
-use Rattle.moves.specs.ReadOff.{Sized, AllSized, no-style, style-record, with-run, with-text, call-of, calls-of}
+use Rattle.moves.specs.Calls.{Sized, AllSized, no-style, style-record, with-run, with-text, call-of, calls-of}
 use Rattle.moves.proofs.Styles.{style-rises, run-back, sized-record}
 use Rattle.moves.proofs.Shows.{Fits}
 use Rattle.moves.proofs.Simulation.{fits-after}

@@ -7,7 +7,7 @@ use Rattle.moves.specs.declared.Op.{Op}
 use Rattle.moves.specs.declared.Op.the-variants as op
 use Rattle.moves.specs.Stepped.{State, stepped}
 use Rattle.moves.specs.Asked.{Call, fresh, calls}
-use Rattle.moves.specs.ReadOff.{no-style, with-text}
+use Rattle.moves.specs.Calls.{no-style, with-text}
 use Rattle.moves.proofs.Open.{moves-open}
 
 -- P1's call by a comma join

@@ -9,7 +9,7 @@ use Rattle.rules.proofs.SoundFields.{bytes-inside, bytes-here}
 use Rattle.scripts.specs.Steps.{Step, open-anchor, close-anchor, open-block, close-block, close-fragment}
 use Rattle.scripts.specs.ReadOff.{run-steps, leaf-steps, steps-of, frags-steps}
 use Rattle.moves.specs.declared.Op.{Op}
-use Rattle.moves.specs.ReadOff.{InBytes, AllInBytes, or-else, no-style, style-record, with-run, with-text, call-of, calls-of}
+use Rattle.moves.specs.Calls.{InBytes, AllInBytes, or-else, no-style, style-record, with-run, with-text, call-of, calls-of}
 
 -- ---- a style's values
 

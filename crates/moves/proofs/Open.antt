@@ -6,7 +6,7 @@ use Rattle.moves.specs.Opened.{code-at, link-at, true-tag, closed-in, cl
 use Rattle.moves.specs.Plans.{fragment-here, depth-in, shuts, puts, opens, begins, next-plan, end-space-plan, end-comma-plan, plan, first-node, piece-bytes, piece-size, piece-checks, opened-header, opened-top, header-size, plan-size, plan-checks, first-fault, sane, closable}
 use Rattle.moves.specs.Stepped.{carried-out, left, fitting, planned, answered, stepped, said}
 use Rattle.moves.specs.Asked.{asked, before-others, script, held-after, called, calls}
-use Rattle.moves.specs.ReadOff.{is-some, or-else, no-style, style-record, call-of, calls-of}
+use Rattle.moves.specs.Calls.{is-some, or-else, no-style, style-record, call-of, calls-of}
 
 unfoldable pub moves-open : ℕ
 unfolding

@@ -27,7 +27,7 @@ use Rattle.moves.specs.declared.Op.{Op}
 use Rattle.moves.specs.declared.Op.the-variants as op
 use Rattle.moves.specs.Stepped.{Written, State, answered, left, stepped, said, Says}
 use Rattle.moves.specs.Asked.{Call, script, Held, fresh, calls}
-use Rattle.moves.specs.ReadOff.{AllSized, AllInBytes, calls-of}
+use Rattle.moves.specs.Calls.{AllSized, AllInBytes, calls-of}
 use Rattle.moves.proofs.Codes.{blocks}
 use Rattle.moves.proofs.Shows.{Fits, start-fits, shows-in}
 use Rattle.moves.proofs.Simulation.{finish-as}

@@ -15,7 +15,7 @@ use Rattle.moves.specs.declared.Op.the-variants as op
 use Rattle.moves.specs.Plans.{plan, puts, shuts, first-node, piece-bytes, piece-checks, plan-checks, opened-header, opened-top, sane}
 use Rattle.moves.specs.Stepped.{Written, fitting, planned, answered, left, stepped}
 use Rattle.moves.specs.Asked.{asked}
-use Rattle.moves.specs.ReadOff.{is-some}
+use Rattle.moves.specs.Calls.{is-some}
 use Rattle.moves.proofs.Codes.{code-of, kind-is, code-is, stands, owns}
 use Rattle.moves.proofs.Carried.{shows-of, Carries, passes, ends, carries-none}
 use Rattle.moves.proofs.Ways.{way-carried}

@@ -7,7 +7,7 @@ use Rattle.rules.specs.Tree.{Run, bytes-of}
 use Rattle.scripts.specs.Formed.{Rising, Formed-style}
 use Rattle.moves.specs.declared.Style.{Style}
 use Rattle.moves.specs.Style.{with-field, style-fields, there, style-of, run}
-use Rattle.moves.specs.ReadOff.{Sized, is-some, or-else, no-style, style-record}
+use Rattle.moves.specs.Calls.{Sized, is-some, or-else, no-style, style-record}
 
 -- ---- the fields of a record rise
 

@@ -4,4 +4,4 @@ pub mod Opened
 pub mod Plans
 pub mod Stepped
 pub mod Asked
-pub mod ReadOff
+pub mod Calls
