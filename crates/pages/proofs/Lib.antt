@@ -6,6 +6,7 @@ pub mod StyleLengths
 pub mod HtmlLengths
 pub mod StateLaws
 pub mod Running
+pub mod Breaks
 pub mod Pens
 pub mod Quiet
 pub mod Going

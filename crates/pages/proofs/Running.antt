@@ -46,7 +46,7 @@ module _ {p p′ p″ : Pen} {page page′ page″ : List ℕ} {xs ys : Ops} whe
   pub and-then : Rendered xs p page p′ page′ → Rendered ys p′ page′ p″ page″ → Rendered (xs ++ ys) p page p″ page″
   and-then f g = record { ran = then-ran (f .ran) (g .ran); indent-kept = g .indent-kept ∙ f .indent-kept }
 
-shown-nothing : (f : F.Form) → shown f [] ≡ []
+pub shown-nothing : (f : F.Form) → shown f [] ≡ []
 unfolding shown chars items-html fill
 shown-nothing F.the-variants.Plain = refl
 shown-nothing F.the-variants.Html = refl
@@ -101,16 +101,16 @@ module _ {p p′ : Pen} {page page′ : List ℕ} where
   quietly {op} {v} f q = record { ran = f .ran; indent-kept = indent-then (f .ran) ∙ level-kept (machine p) op v q }
 
   -- and the one that makes it deeper
-  pub deeper : {v : List ℕ} → Interpreted Op.the-variants.PushIndent v p page p′ page′ → indent-of p′ ≡ suc (indent-of p)
-  unfolding operation step indent-of
-  deeper f = indent-then (f .ran)
+  pub deeper : Ran (rules.indent ∷ []) p page p′ page′ → indent-of p′ ≡ suc (indent-of p)
+  unfolding step indent-of
+  deeper f = indent-then f
 
 -- what stands between a push and a pop of the indent keeps it
-pub indented : {p p₁ p₂ p₃ : Pen} {page page₁ page₂ page₃ v w : List ℕ} {os : Ops} → Interpreted Op.the-variants.PushIndent v p page p₁ page₁
-    → Rendered os p₁ page₁ p₂ page₂ → Interpreted Op.the-variants.PopIndent w p₂ page₂ p₃ page₃ → Rendered (rules.indent ∷ (os ++ (rules.unindent ∷ []))) p page p₃ page₃
-unfolding operation step indent-of
+pub indented : {p p₁ p₂ p₃ : Pen} {page page₁ page₂ page₃ : List ℕ} {os : Ops} → Ran (rules.indent ∷ []) p page p₁ page₁
+    → Rendered os p₁ page₁ p₂ page₂ → Ran (rules.unindent ∷ []) p₂ page₂ p₃ page₃ → Rendered (rules.indent ∷ (os ++ (rules.unindent ∷ []))) p page p₃ page₃
+unfolding step indent-of
 indented f g h =
     record {
-      ran = then-ran (f .ran) (then-ran (g .ran) (h .ran));
-      indent-kept = indent-then (h .ran) ∙ ap pred (g .indent-kept ∙ deeper f);
+      ran = then-ran f (then-ran (g .ran) h);
+      indent-kept = indent-then h ∙ ap pred (g .indent-kept ∙ deeper f);
     }

@@ -1,13 +1,13 @@
 -- A node by its tag, an indented block, and the loops over fragments and nodes.
 use Rattle.rules.proofs.Basics.{_≡_, refl, List, [], _++_, Bool, true, false, ℕ, zero, suc, _-_, _≤_, arith, length, getD, take, drop, ne-eqb, le-leb}
-use Rattle.lines.specs.Said.{break-of, operation}
-use Rattle.lines.specs.declared.Break.the-variants as Break
-use Rattle.lines.specs.declared.LineOp.the-variants as Op
+use Rattle.rules.specs.Lines.{break, a-newline, indent, unindent}
 use Rattle.parts.proofs.Spans.{behind}
 use Rattle.pages.specs.OpsIn.{Ops, each-from, leaf-in, node-by, behind-fragment, fragments-by, indented-by, node-in, three-in}
-use Rattle.pages.specs.Ran.{Interpreted, Rendered}
+use Rattle.pages.specs.States.{Unseen}
+use Rattle.pages.specs.Ran.{Rendered}
 use Rattle.pages.specs.declared.pen.Pen.{Pen}
-use Rattle.pages.proofs.Running.{and-then, quietly, indented}
+use Rattle.pages.proofs.Running.{and-then, indented}
+use Rattle.pages.proofs.Breaks.{unseen-ran, break-rendered}
 
 -- ---- a node
 
@@ -38,13 +38,12 @@ module _ (left : ℕ) (directly : Bool) (h : List ℕ) {p p′ : Pen} {page page
 
 -- ---- an indented block
 
-pub a-three : (left : ℕ) (h : List ℕ) {p p₁ p₂ p₃ p₄ : Pen} {page page₁ page₂ page₃ page₄ x y z : List ℕ} → (left ≡ 0 → ⊥)
-    → Interpreted Op.PushIndent x p page p₁ page₁ → Interpreted (Op.BreakIfWithinLine Break.NewLine) y p₁ page₁ p₂ page₂
-    → Rendered (fragments-by true (node-in (left - 1) true) h) p₂ page₂ p₃ page₃ → Interpreted Op.PopIndent z p₃ page₃ p₄ page₄
-    → Rendered (three-in left h) p page p₄ page₄
-unfolding three-in indented-by break-of operation
-a-three zero h n a b r c = absurd (n refl)
-a-three (suc left) h n a b r c = let e : suc left - 1 ≡ left = omega arith in indented a (and-then (quietly b tt) (rw e at r)) c
+pub a-three : (left : ℕ) (h : List ℕ) {p p′ : Pen} {n n₁ n₂ : ℕ} {page page′ : List ℕ} → (left ≡ 0 → ⊥) → Unseen indent (p .state) n₁ → Unseen (break a-newline) n₁ n₂
+    → Rendered (fragments-by true (node-in (left - 1) true) h) (record { at = p .at; state = n₂ }) page p′ page′ → Unseen unindent (p′ .state) n
+    → Rendered (three-in left h) p page (record { at = p′ .at; state = n }) page′
+unfolding three-in indented-by
+a-three zero h z d b r u = absurd (z refl)
+a-three (suc left) h z d b r u = let e : suc left - 1 ≡ left = omega arith in indented (unseen-ran d) (and-then (break-rendered b) (rw e at r)) (unseen-ran u)
 
 -- ---- the loops
 

@@ -1,4 +1,6 @@
 -- What a pen's number says: the line machine and the form.
+use mathlib.Core.Path.{_≡_}
+use mathlib.Core.List.{[]}
 use mathlib.Core.Option.{Option, none, some}
 use mathlib.Core.Bool.{Bool}
 use Prim.Native.Nat.{ℕ, zero, suc, _+_, _/_, _%_, _^_, _<_}
@@ -15,6 +17,12 @@ unfoldable pub waiting-numbered : ℕ → Option rules.Break
 waiting-numbered zero = none
 waiting-numbered (suc zero) = some rules.a-space
 waiting-numbered (suc (suc k)) = some rules.a-newline
+
+-- the break that waits there
+unfoldable pub break-numbered : ℕ → rules.Break
+break-numbered zero = rules.a-space
+break-numbered (suc zero) = rules.a-space
+break-numbered (suc (suc k)) = rules.a-newline
 
 unfoldable pub form-numbered : ℕ → F.Form
 form-numbered zero = F.the-variants.Plain
@@ -44,3 +52,8 @@ levels-of rules.has-text = 0
 -- a line that a number has room for
 pub record Fits (l : rules.Line) : Type 0 where
   pub fits : levels-of l + 2 < 2 ^ 45
+
+-- an operation of which nothing shows leaves n′ of n
+pub record Unseen (o : rules.LineOp ℕ) (n n′ : ℕ) : Type 0 where
+  pub stepped : rules.step (machine-in n) o ≡ ([], machine-in n′)
+  pub form-kept : form-in n′ ≡ form-in n

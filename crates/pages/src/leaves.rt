@@ -3,9 +3,11 @@ use crate::bytes::render_bytes;
 use crate::pen::Pen;
 use crate::pen::interpret;
 use crate::pen::interpret_mark;
+use crate::state::NEWLINE;
+use crate::state::SPACE;
+use crate::state::broken;
 use fields::Field;
 use fields::field_at;
-use lines::Break;
 use lines::LineOp;
 use parts::field_end;
 ghost use Prim.Native.Nat.{_<_, _^_};
@@ -98,8 +100,14 @@ pub fn render_leaf(tag: u8, v: &[u8], page: &mut [u8], pen: Pen, directly_in_blo
     match tag {
         1 => render_text(v, page, pen),
         2 => render_anchor(v, page, pen),
-        5 => interpret(page, pen, LineOp::BreakIfWithinLine(Break::Space), b""),
-        6 => interpret(page, pen, LineOp::BreakIfWithinLine(Break::NewLine), b""),
+        5 => Pen {
+            at: pen.at,
+            state: broken(pen.state, SPACE),
+        },
+        6 => Pen {
+            at: pen.at,
+            state: broken(pen.state, NEWLINE),
+        },
         7 => render_if_block(v, page, pen, directly_in_block),
         _ => pen,
     }

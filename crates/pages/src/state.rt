@@ -6,10 +6,15 @@ use lines::Waiting;
 ghost use mathlib.Core.Path.{_≡_};
 ghost use Prim.Native.Nat.{_<_, _^_};
 ghost use Rattle.rules.specs.Bytes.{newline};
-ghost use Rattle.rules.specs.Lines.{text-ops, start, after};
+ghost use Rattle.rules.specs.Lines.{text-ops, start, after, break, ignored, indent, unindent};
 ghost use Rattle.lines.specs.Said.{line-of, waiting-of, machine-of};
-ghost use Rattle.pages.specs.States.{line-numbered, waiting-numbered, form-numbered, machine-in, form-in, quiet, at-margin, Fits};
+ghost use Rattle.pages.specs.States.{line-numbered, waiting-numbered, form-numbered, break-numbered, machine-in, form-in, quiet, at-margin, Fits, Unseen};
 ghost use Rattle.pages.specs.declared.state.Form.the-variants as Form;
+
+// The breaks, as they wait.
+pub const SPACE: usize = 1;
+
+pub const NEWLINE: usize = 2;
 
 // How items are shown: texts alone, or texts escaped and marks as tags.
 pub enum Form {
@@ -135,4 +140,46 @@ pub fn state_behind(v: &[u8]) -> usize
         return 0;
     }
     LINE
+}
+
+// A break does not count on an empty line, nor on one with no more levels than the indent.
+fn ignores(state: usize) -> bool
+    ensures { λ r. ⌜ r ≡ ignored (machine-in state .level) (machine-in state .line) ⌝ }
+{
+    let line = state / LINE;
+    if line == 1 {
+        return false;
+    }
+    line <= state % FORM + 2
+}
+
+// A break waits, unless one waits that is as much.
+pub fn broken(state: usize, b: usize) -> usize
+    requires { ⌜ (0 < b) × (b < 3) ⌝ }
+    ensures { λ r. ⌜ Unseen (break (break-numbered b)) state r ⌝ }
+{
+    if ignores(state) {
+        return state;
+    }
+    let waiting = state / WAITING % 4;
+    if waiting < b {
+        return state + (b - waiting) * WAITING;
+    }
+    state
+}
+
+// The indent is one level deeper.
+pub fn deeper(state: usize) -> usize
+    requires { ⌜ machine-in state .level < 2 ^ 15 ⌝ }
+    ensures { λ r. ⌜ Unseen indent state r ⌝ }
+{
+    state + 1
+}
+
+// It is one level less.
+pub fn less_deep(state: usize) -> usize
+    requires { ⌜ 0 < machine-in state .level ⌝ }
+    ensures { λ r. ⌜ Unseen unindent state r ⌝ }
+{
+    state - 1
 }

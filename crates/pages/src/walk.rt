@@ -1,11 +1,13 @@
 // The walk: a node, a block's fragments, a fragment's nodes. They call each other, with one block less left each time round.
 use crate::leaves::render_leaf;
 use crate::pen::Pen;
-use crate::pen::interpret;
-use lines::Break;
-use lines::LineOp;
+use crate::state::NEWLINE;
+use crate::state::broken;
+use crate::state::deeper;
+use crate::state::less_deep;
 use parts::field_end;
-ghost use Prim.Native.Nat.{_+_, _<_, _^_};
+ghost use mathlib.Core.List.{List};
+ghost use Prim.Native.Nat.{ℕ, _+_, _<_, _^_};
 ghost use Rattle.pages.specs.OpsIn.{behind-fragment, fragments-by, three-in, node-in, fragment-in};
 ghost use Rattle.pages.specs.Ran.{indent-of, Rendered};
 
@@ -38,19 +40,26 @@ fn render_indented(s: &[u8], page: &mut [u8], pen: Pen, left: usize) -> Pen
     if left == 0 {
         return pen;
     }
-    let pushed = interpret(page, pen, LineOp::PushIndent, b"");
-    let broken = interpret(page, pushed, LineOp::BreakIfWithinLine(Break::NewLine), b"");
-    let inside = render_fragments(s, page, broken, true, left - 1);
-    interpret(page, inside, LineOp::PopIndent, b"")
+    let entered = Pen {
+        at: pen.at,
+        state: broken(deeper(pen.state), NEWLINE),
+    };
+    let inside = render_fragments(s, page, entered, true, left - 1);
+    Pen {
+        at: inside.at,
+        state: less_deep(inside.state),
+    }
 }
 
 // Behind a fragment of an indented block the line ends.
-fn end_fragment(page: &mut [u8], pen: Pen, directly_in_block: bool) -> Pen
-    requires { ⌜ indent-of pen < 2 ^ 15 ⌝ }
-    ensures { λ r. ⌜ Rendered (behind-fragment «directly_in_block») pen (now (page .entry)) r (now (page .exit)) ⌝ }
+fn end_fragment(pen: Pen, directly_in_block: bool) -> Pen
+    ensures { λ r. ⌜ ((page : List ℕ) → Rendered (behind-fragment «directly_in_block») pen page r page) ⌝ }
 {
     if directly_in_block {
-        return interpret(page, pen, LineOp::BreakIfWithinLine(Break::NewLine), b"");
+        return Pen {
+            at: pen.at,
+            state: broken(pen.state, NEWLINE),
+        };
     }
     pen
 }
@@ -71,7 +80,7 @@ fn render_fragments(
     while at < s.len() {
         let to = field_end(s, at);
         p = render_fragment(&s[at..to], 3, page, p, directly_in_block, left);
-        p = end_fragment(page, p, directly_in_block);
+        p = end_fragment(p, directly_in_block);
         at = to;
     }
     p

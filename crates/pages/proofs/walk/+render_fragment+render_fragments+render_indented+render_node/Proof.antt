@@ -1,8 +1,11 @@
 -- `render_node`, `render_indented`, `render_fragments` and `render_fragment` meet their contracts: the blocks that are left fall; each loop's invariant is `Going`.
 use Rattle.rules.proofs.Basics.{arith, length, needs, le-leb, lt-leb, ℕ, _+_, _*_, _-_}
 use Rattle.parts.proofs.Spans.{end-rises, end-within, end-less}
+use Rattle.pages.specs.States.{break-numbered}
+use Rattle.pages.specs.Ran.{indent-of}
 use Rattle.pages.specs.OpsIn.{node-by, fragments-by, node-in, three-in, fragment-in}
-use Rattle.pages.proofs.Running.{nothing, and-then, kept, quietly, deeper}
+use Rattle.pages.proofs.Running.{nothing, and-then, kept}
+use Rattle.pages.proofs.Breaks.{break-level, indent-level}
 use Rattle.pages.proofs.Going.{Going, going-starts, going-more, going-ends}
 use Rattle.pages.proofs.WalkLaws.{four-in, node-is, node-four, node-leaf, a-three, fragment-ops}
 use borrow.Fn.PlainCycle.{Measures}
@@ -20,7 +23,9 @@ use Rattle.pages.proofs.walk.render_node.Reads as render-node
 use Rattle.pages.proofs.walk.render_node.Kinds as render-node-kinds
 use Rattle.pages.proofs.walk.+render_fragment+render_fragments+render_indented+render_node.Lts-render_node as render-node-lts
 use Rattle.pages.proofs.leaves.render_leaf.Reads as render-leaf-reads
-use Rattle.pages.proofs.pen.interpret.Reads as interpret-reads
+use Rattle.pages.proofs.state.broken.Reads as broken-reads
+use Rattle.pages.proofs.state.deeper.Reads as deeper-reads
+use Rattle.pages.proofs.state.less_deep.Reads as less-deep-reads
 use Rattle.pages.proofs.walk.end_fragment.Reads as end-fragment-reads
 use Rattle.parts.proofs.field_end.Reads as field-end-reads
 use Rattle.pages.proofs.walk.+render_fragment+render_fragments+render_indented+render_node.{
@@ -42,8 +47,9 @@ abbrev μ-render-indented : Measures 2 render-indented-kinds.ps ℕ
 abbrev μ-render-node : Measures 2 render-node-kinds.ps ℕ
 μ-render-node κs a = 4 * a .1 .1 .1 .1 .0 + 1
 
-render-indented-returns-2 : (t : ℕ) → render-indented-lts.Need-returns-2 (interpret-reads.Asked, interpret-reads.Learnt, below 2 render-fragments-kinds.ps μ-render-fragments render-fragments.Pre t, render-fragments.Post) (at 2 render-indented-kinds.ps μ-render-indented render-indented.Pre t) render-indented.Post
-render-indented-returns-2 t c = a-three _ _ (c .before .before .before .before .before .before .before .before .before .before .before .before .before .before .before .before .before .before .before .if1 .left) (c .before .before .before .before .before .before .before .before .before .before .before .before .before .before .before .before .interpret .ensures) (c .before .before .before .before .before .before .before .before .before .before .before .interpret2 .ensures) (c .before .before .before .before .before .before .before .render-fragments .ensures) (c .before .before .interpret3 .ensures)
+render-indented-returns-2 : (t : ℕ) → render-indented-lts.Need-returns-2 (deeper-reads.Asked, deeper-reads.Learnt, broken-reads.Asked, broken-reads.Learnt, below 2 render-fragments-kinds.ps μ-render-fragments render-fragments.Pre t, render-fragments.Post, less-deep-reads.Asked, less-deep-reads.Learnt) (at 2 render-indented-kinds.ps μ-render-indented render-indented.Pre t) render-indented.Post
+unfolding break-numbered
+render-indented-returns-2 t c = a-three _ _ (c .before .before .before .before .before .before .before .if1 .left) (c .before .before .before .before .before .before .deeper .ensures) (c .before .before .before .before .before .broken .ensures) (c .before .before .before .render-fragments .ensures) (c .less-deep .ensures)
 
 pub +render-fragment+render-fragments+render-indented+render-node-spec : {M : Type 1} → statement M
 +render-fragment+render-fragments+render-indented+render-node-spec =
@@ -66,21 +72,17 @@ pub +render-fragment+render-fragments+render-indented+render-node-spec : {M : Ty
     (λ s page₀ directly-in-block left p₀ at₀ page p at. length s - at)
     (λ c. going-starts) (λ c κs. search needs) (λ c. search end-rises) (λ c. search end-rises) (λ c. search end-within)
     (λ c κs. (omega (arith, c .before .before .before .before .before .before .before .pre .0), omega (arith, c .before .before .before .before .loop .inv .rendered .indent-kept, c .before .before .before .before .before .before .before .pre .1)))
-    (λ c κs. omega (arith, c .before .before .before .render-fragment .ensures .indent-kept, c .before .before .before .before .before .before .before .before .loop .inv .rendered .indent-kept, c .before .before .before .before .before .before .before .before .before .before .before .pre .1))
+    (λ c κs. search needs)
     (λ c. search end-less)
-    (λ c. unfold fragment-in fragment-ops in going-more (c .before .before .before .before .before .before .before .before .before .before .before .loop .inv) (c .before .before .before .before .before .before .before .before .before .before .loop-test .taken) (c .before .before .before .before .before .before .before .before .before .field-end .ensures) (and-then (c .before .before .before .before .before .before .render-fragment .ensures) (c .before .before .end-fragment .ensures)))
+    (λ c. unfold fragment-in fragment-ops in going-more (c .before .before .before .before .before .before .before .before .loop .inv) (c .before .before .before .before .before .before .before .loop-test .taken) (c .before .before .before .before .before .before .field-end .ensures) (and-then (c .before .before .before .render-fragment .ensures) (c .end-fragment .ensures _)))
     (λ c. kept (c .before .loop .inv .rendered))
     (λ c. unfold fragments-by fragment-ops in going-ends (c .before .loop .inv) (c .loop-test .left)))
     (λ t. render-indented-lts.spec
-    (interpret-reads.Asked, interpret-reads.Learnt, below 2 render-fragments-kinds.ps μ-render-fragments render-fragments.Pre t, render-fragments.Post)
+    (deeper-reads.Asked, deeper-reads.Learnt, broken-reads.Asked, broken-reads.Learnt, below 2 render-fragments-kinds.ps μ-render-fragments render-fragments.Pre t, render-fragments.Post, less-deep-reads.Asked, less-deep-reads.Learnt)
     (at 2 render-indented-kinds.ps μ-render-indented render-indented.Pre t) render-indented.Post
-    (λ c. unfold three-in in rw (c .if1 .taken) nothing) (λ c. search needs)
-    (λ c κs. omega (arith, c .before .before .before .before .before .pre .1)) (λ c. search needs)
-    (λ c κs. omega (arith, deeper (c .before .before .before .before .interpret .ensures), c .before .before .before .before .before .before .before .before .before .before .pre .1))
-    (λ c. omega arith)
-    (λ c κs. (omega (arith, c .before .before .before .before .before .before .before .before .before .before .before .before .before .before .pre .0), omega (arith, quietly (c .before .before .before .interpret2 .ensures) tt .indent-kept, deeper (c .before .before .before .before .before .before .before .before .interpret .ensures), c .before .before .before .before .before .before .before .before .before .before .before .before .before .before .pre .1)))
-    (λ c. search needs)
-    (λ c κs. omega (arith, c .before .before .before .before .render-fragments .ensures .indent-kept, quietly (c .before .before .before .before .before .before .before .before .interpret2 .ensures) tt .indent-kept, deeper (c .before .before .before .before .before .before .before .before .before .before .before .before .before .interpret .ensures), c .before .before .before .before .before .before .before .before .before .before .before .before .before .before .before .before .before .before .before .pre .1))
+    (λ c. unfold three-in in rw (c .if1 .taken) nothing) (λ c κs. unfold indent-of in omega (arith, c .before .before .before .pre .1)) (λ c κs. (omega arith, omega arith)) (λ c. omega arith)
+    (λ c κs. unfold indent-of in (omega (arith, c .before .before .before .before .before .before .pre .0), omega (arith, break-level (c .before .broken .ensures), indent-level (c .before .before .deeper .ensures), c .before .before .before .before .before .before .pre .1)))
+    (λ c κs. unfold indent-of in omega (arith, c .before .before .render-fragments .ensures .indent-kept, break-level (c .before .before .before .before .broken .ensures), indent-level (c .before .before .before .before .before .deeper .ensures)))
     (λ c. kept (render-indented-returns-2 t c)) (render-indented-returns-2 t))
     λ t. render-node-lts.spec
     (below 2 render-indented-kinds.ps μ-render-indented render-indented.Pre t, render-indented.Post, below 2 render-fragments-kinds.ps μ-render-fragments render-fragments.Pre t, render-fragments.Post, render-leaf-reads.Asked, render-leaf-reads.Learnt)

@@ -1,12 +1,13 @@
 -- `pages::walk::end_fragment` meets its contract: a break, or nothing.
-use Rattle.lines.specs.Said.{break-of, operation}
+use Rattle.rules.proofs.Basics.{arith, needs}
+use Rattle.pages.specs.States.{break-numbered}
 use Rattle.pages.specs.OpsIn.{behind-fragment}
-use Rattle.pages.proofs.Running.{nothing, quietly}
-use borrow.Author.Needs.{needs}
+use Rattle.pages.proofs.Running.{nothing}
+use Rattle.pages.proofs.Breaks.{break-rendered}
 use Rattle.pages.proofs.walk.end_fragment.Statement.{statement}
 use Rattle.pages.proofs.walk.end_fragment.Tie as tie
 
 pub end-fragment-spec : {M : Type 1} → statement M
-end-fragment-spec = tie.close (tie.spec (λ c. search needs) (λ c κs. search needs) (λ c. search needs)
-    (λ c. unfold behind-fragment break-of operation in rw (c .before .before .before .before .before .if1 .taken) (quietly (c .before .before .interpret .ensures) tt))
-    (λ c. unfold behind-fragment in rw (c .if1 .left) nothing))
+end-fragment-spec = tie.close (tie.spec (λ c κs. (omega arith, omega arith))
+    (λ c page. unfold behind-fragment break-numbered in rw (c .before .if1 .taken) (break-rendered (c .broken .ensures)))
+    (λ c page. unfold behind-fragment in rw (c .if1 .left) nothing))
