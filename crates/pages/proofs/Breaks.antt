@@ -2,10 +2,10 @@
 use Rattle.rules.proofs.Basics.{_≡_, refl, sym, ap, _∙_, List, [], _∷_, some, Bool, true, false, ℕ, zero, suc, _+_, _-_, _*_, _/_, _%_, _<_, _≤_, arith, leb, leb-true, leb-false, le-leb, lt-leb, div-div-eq-div-mul, sub-one}
 use Prim.Native.Nat.{pred}
 use Rattle.rules.specs.Lines as rules
-use Rattle.rules.specs.Lines.{Machine, LineOp, break, indent, unindent, step, run, after, ignored, joined}
+use Rattle.rules.specs.Lines.{LineOp, break, indent, unindent, step, run, after, ignored, joined}
 use Rattle.writing.proofs.Laws as writing
 use Rattle.pages.specs.States.{line-numbered, waiting-numbered, break-numbered, form-numbered, machine-in, form-in, Unseen}
-use Rattle.pages.specs.Ran.{machine, form, indent-of, Ran, Rendered}
+use Rattle.pages.specs.Ran.{form, indent-of, Ran, Rendered}
 use Rattle.pages.specs.declared.pen.Pen.{Pen}
 use Rattle.pages.proofs.Running.{shown-nothing}
 use Rattle.rules.proofs.Runs.{broken-level}

@@ -8,6 +8,7 @@ pub mod StateLaws
 pub mod Running
 pub mod Breaks
 pub mod Pens
+pub mod BeforeItems
 pub mod Quiet
 pub mod Going
 pub mod TextLines

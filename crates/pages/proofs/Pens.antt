@@ -1,5 +1,5 @@
 -- What the pen writes: an operation's own bytes, and all of one operation.
-use Rattle.rules.proofs.Basics.{_≡_, refl, ap, _∙_, List, [], _∷_, _++_, append-nil, Bool, ℕ}
+use Rattle.rules.proofs.Basics.{_≡_, refl, ap, subst, _∙_, List, [], _∷_, _++_, append-nil, Bool, ℕ}
 use Rattle.rules.specs.Lines.{Mark, open-anchor, close-anchor, Item, marked, making, step, run, after}
 use Rattle.rules.specs.Plain.{chars, fill}
 use Rattle.rules.specs.Html.{escape, mark-html, item-html, items-html}
@@ -10,7 +10,7 @@ use Rattle.lines.specs.declared.LineOp as O
 use Rattle.lines.specs.declared.Machine as M
 use Rattle.lines.specs.declared.Stepped.{Stepped}
 use Rattle.lines.specs.Said.{machine-of, before-bytes, step-of, operation, copies, own}
-use Rattle.pages.specs.Ran.{shown, machine, form, Interpreted}
+use Rattle.pages.specs.Ran.{shown, machine, form, IsMark, Interpreted}
 use Rattle.pages.specs.declared.state.Form as F
 use Rattle.pages.specs.declared.pen.Pen.{Pen}
 use Rattle.pages.proofs.Running.{shown-append}
@@ -34,6 +34,10 @@ shows-nothing (O.the-variants.EmptyAnchor d) v n = writing.nothing
 shows-nothing O.the-variants.AppendToLine v n = absurd (n refl)
 shows-nothing O.the-variants.StartNewLine v n = writing.nothing
 shows-nothing (O.the-variants.BreakIfWithinLine b) v n = writing.nothing
+
+pub mark-shows-nothing : (op : O.LineOp) (v : List ℕ) {page : List ℕ} {at : ℕ} → IsMark op → Written page at (shown F.the-variants.Plain (own op v)) page at
+unfolding IsMark
+mark-shows-nothing op v q = shows-nothing op v (λ e. subst IsMark e q)
 
 -- ---- in HTML
 
@@ -63,7 +67,7 @@ unfolding making items-html item-html fill
 made-html [] = refl
 made-html (b ∷ bs) = ap (λ (s : List ℕ). b ∷ s) (made-html bs)
 
-shown-making : (f : F.Form) (bs : List ℕ) → shown f (making bs) ≡ bs
+pub shown-making : (f : F.Form) (bs : List ℕ) → shown f (making bs) ≡ bs
 unfolding shown
 shown-making F.the-variants.Plain bs = made-chars bs
 shown-making F.the-variants.Html bs = made-html bs

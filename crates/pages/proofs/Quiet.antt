@@ -1,17 +1,16 @@
 -- A line with text on a plain page, where no break waits: of an operation nothing shows but its own bytes.
 use Rattle.rules.proofs.Basics.{_≡_, refl, sym, ap, _∙_, List, [], _∷_, append-nil, true, none, ℕ, _/_, _%_, arith, eqb→eq}
-use Rattle.rules.specs.Lines.{Mark, push, pop, open-anchor, close-anchor, LineOp, part, mark, Machine, has-text, Item, marked, release, spacing, item, step, run, after}
-use Rattle.rules.specs.Plain.{chars, fill}
-use Rattle.styles.specs.StylesIn.{styles-in}
+use Rattle.rules.specs.Lines.{LineOp, part, mark, Machine, has-text, Item, release, spacing, item, step, run, after}
 use Rattle.writing.specs.Written.{Written}
 use Rattle.writing.proofs.Laws as writing
 use Rattle.lines.specs.declared.LineOp as O
-use Rattle.lines.specs.Said.{operation, copies}
+use Rattle.lines.specs.Said.{operation, copies, own}
 use Rattle.pages.specs.Ran.{shown, machine, Ran, IsMark, Interpreted}
 use Rattle.pages.specs.States.{line-numbered, waiting-numbered, form-numbered, machine-in, form-in, quiet}
 use Rattle.pages.specs.declared.state.Form as F
 use Rattle.pages.specs.declared.pen.Pen.{Pen}
-use Rattle.pages.proofs.Pens.{shown-copies}
+use Rattle.pages.proofs.Pens.{shown-copies, mark-shows-nothing}
+use Rattle.pages.proofs.BeforeItems.{mark-item}
 
 -- the machine of such a line
 abbrev pub within-line : ℕ → Machine
@@ -53,19 +52,6 @@ quiet-part v e w k = record { ran = quiet-ran (part v) (copies v) (part-step v) 
 
 -- ---- a mark, of which nothing shows at all
 
-mark-ran : (k : Mark ℕ) {p : Pen} {page : List ℕ} → quiet (p .state) ≡ true → Ran (mark k ∷ []) p page p page
-unfolding step item release spacing shown chars fill
-mark-ran k e = quiet-ran (mark k) (marked k ∷ []) (λ l. refl) e writing.nothing refl
-
 pub quiet-mark : (op : O.LineOp) (v : List ℕ) {p : Pen} {page : List ℕ} → IsMark op → quiet (p .state) ≡ true → Interpreted op v p page p page
-unfolding IsMark operation
-quiet-mark O.the-variants.PushStyles v q e = record { ran = mark-ran (push (styles-in v)) e }
-quiet-mark O.the-variants.PopStyles v q e = record { ran = mark-ran (pop (styles-in v)) e }
-quiet-mark (O.the-variants.PushAnchor d) v q e = record { ran = mark-ran (open-anchor d v) e }
-quiet-mark O.the-variants.PopAnchor v q e = record { ran = mark-ran close-anchor e }
-quiet-mark O.the-variants.PushIndent v q e = absurd q
-quiet-mark O.the-variants.PopIndent v q e = absurd q
-quiet-mark (O.the-variants.EmptyAnchor d) v q e = absurd q
-quiet-mark O.the-variants.AppendToLine v q e = absurd q
-quiet-mark O.the-variants.StartNewLine v q e = absurd q
-quiet-mark (O.the-variants.BreakIfWithinLine b) v q e = absurd q
+unfolding item release spacing
+quiet-mark op v q e = record { ran = quiet-ran (operation op v) (own op v) (λ l. mark-item op v (within-line l) q) e (mark-shows-nothing op v q) refl }

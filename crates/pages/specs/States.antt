@@ -1,10 +1,12 @@
 -- What a pen's number says: the line machine and the form.
 use mathlib.Core.Path.{_≡_}
-use mathlib.Core.List.{[]}
+use mathlib.Core.List.{List, [], _∷_, _++_}
 use mathlib.Core.Option.{Option, none, some}
-use mathlib.Core.Bool.{Bool}
-use Prim.Native.Nat.{ℕ, zero, suc, _+_, _/_, _%_, _^_, _<_}
-use lib.Dec.{eqb}
+use mathlib.Core.Bool.{Bool, false}
+use Prim.Native.Nat.{ℕ, zero, suc, _+_, _-_, _*_, _/_, _%_, _^_, _<_}
+use lib.Dec.{eqb, ltb}
+use lib.ListN.{replicate}
+use Rattle.rules.specs.Bytes.{if_then_else_}
 use Rattle.rules.specs.Lines as rules
 use Rattle.pages.specs.declared.state.Form as F
 
@@ -57,3 +59,35 @@ pub record Fits (l : rules.Line) : Type 0 where
 pub record Unseen (o : rules.LineOp ℕ) (n n′ : ℕ) : Type 0 where
   pub stepped : rules.step (machine-in n) o ≡ ([], machine-in n′)
   pub form-kept : form-in n′ ≡ form-in n
+
+-- ---- before a part or a mark
+
+unfoldable pub waiting-bytes : Option rules.Break → List ℕ
+waiting-bytes none = []
+waiting-bytes (some rules.a-space) = 32 ∷ []
+waiting-bytes (some rules.a-newline) = 10 ∷ []
+
+-- from k levels to t
+unfoldable pub levels-bytes : (k t : ℕ) → List ℕ
+levels-bytes k t = if ltb t k then 10 ∷ replicate (2 * t) 32 else replicate (2 * (t - k)) 32
+
+-- a line without text is brought to the indent
+unfoldable pub line-bytes : (level : ℕ) → rules.Line → List ℕ
+line-bytes level rules.empty = levels-bytes 0 level
+line-bytes level (rules.indented-by k) = levels-bytes k level
+line-bytes level rules.has-text = []
+
+-- the line once the waiting break is written
+unfoldable pub line-then : rules.Machine → rules.Line
+line-then m = rules.release {X = ℕ} (m .waiting) (m .line) .1
+
+-- the bytes that stand before it, and the line there
+unfoldable pub ready-bytes : rules.Machine → List ℕ
+ready-bytes m = waiting-bytes (m .waiting) ++ line-bytes (m .level) (line-then m)
+
+unfoldable pub line-ready : rules.Machine → rules.Line
+line-ready m = rules.spacing {X = ℕ} (m .level) false (line-then m) .1
+
+-- on another line, where no break waits
+unfoldable pub on-line : rules.Machine → rules.Line → rules.Machine
+on-line m l = record { level = m .level; line = l; waiting = none }

@@ -1,8 +1,12 @@
 // The pen: the line machine, and how far the page is written. One operation at a time.
+use crate::ready::put_ready;
 use crate::state::Form;
+use crate::state::TEXT;
 use crate::state::form_in;
+use crate::state::line_ready;
 use crate::state::machine_in;
 use crate::state::nothing_shows;
+use crate::state::on_line;
 use crate::state::state_of;
 use lines::Before;
 use lines::LineOp;
@@ -19,9 +23,10 @@ use writing::put_bytes;
 use writing::put_spaces;
 ghost use mathlib.Core.List.{[], _∷_};
 ghost use Prim.Native.Nat.{_<_, _^_};
+ghost use lib.ListN.{length};
 ghost use Rattle.rules.specs.Bytes.{if_then_else_};
 ghost use Rattle.writing.specs.Written.{Written};
-ghost use Rattle.lines.specs.Said.{break-bytes, before-bytes, own};
+ghost use Rattle.lines.specs.Said.{break-bytes, before-bytes, copies, own};
 ghost use Rattle.lines.specs.declared.LineOp.the-variants as LineOp;
 ghost use Rattle.pages.specs.declared.state.Form.the-variants as Form;
 ghost use Rattle.pages.specs.Ran.{shown, indent-of, IsMark, Interpreted};
@@ -124,21 +129,59 @@ pub fn interpret(page: &mut [u8], pen: Pen, op: LineOp, text: &[u8]) -> Pen
     }
 }
 
-// One operation that opens or closes a style or an anchor. On a plain page nothing shows of it, and on a line with text, where no break waits,
-// nothing stands before it.
+// A part's bytes: as they are, or escaped.
+fn put_part(page: &mut [u8], at: usize, form: Form, text: &[u8]) -> usize
+    ensures { λ r. ⌜ Written (now (page .entry)) at (shown form (copies (now (text .entry)))) (now (page .exit)) r ⌝ }
+{
+    match form {
+        Form::Plain => put_bytes(page, at, text),
+        Form::Html => put_escaped(page, at, text),
+    }
+}
+
+// A mark's tags, of which nothing shows on a plain page.
+fn put_mark(page: &mut [u8], at: usize, form: Form, op: LineOp, text: &[u8]) -> usize
+    requires { ⌜ IsMark op ⌝ }
+    ensures { λ r. ⌜ Written (now (page .entry)) at (shown form (own op (now (text .entry)))) (now (page .exit)) r ⌝ }
+{
+    match form {
+        Form::Plain => at,
+        Form::Html => put_html(page, at, op, text),
+    }
+}
+
+// One operation that opens or closes a style or an anchor. On a plain page, on a line with text where no break waits, nothing stands before it
+// either.
 pub fn interpret_mark(page: &mut [u8], pen: Pen, op: LineOp, text: &[u8]) -> Pen
-    requires { ⌜ (indent-of pen < 2 ^ 15) × IsMark op ⌝ }
+    requires { ⌜ IsMark op ⌝ }
     ensures { λ r. ⌜ Interpreted op (now (text .entry)) pen (now (page .entry)) r (now (page .exit)) ⌝ }
 {
     if nothing_shows(pen.state) {
         return pen;
     }
-    interpret(page, pen, op, text)
+    let from = put_ready(page, pen.at, pen.state);
+    let at = put_mark(page, from, form_in(pen.state), op, text);
+    Pen {
+        at,
+        state: on_line(pen.state, line_ready(pen.state)),
+    }
 }
 
-// A part of a text. On a plain page, on a line with text where no break waits, its bytes are all that shows.
+// A part of a text that has bytes.
+fn begin_part(page: &mut [u8], pen: Pen, text: &[u8]) -> Pen
+    requires { ⌜ 0 < length (now text) ⌝ }
+    ensures { λ r. ⌜ Interpreted LineOp.AppendToLine (now (text .entry)) pen (now (page .entry)) r (now (page .exit)) ⌝ }
+{
+    let from = put_ready(page, pen.at, pen.state);
+    let at = put_part(page, from, form_in(pen.state), text);
+    Pen {
+        at,
+        state: on_line(pen.state, TEXT),
+    }
+}
+
+// A part of a text. On a plain page, on a line with text where no break waits, its bytes are all that shows; without bytes it does nothing.
 pub fn interpret_part(page: &mut [u8], pen: Pen, text: &[u8]) -> Pen
-    requires { ⌜ indent-of pen < 2 ^ 15 ⌝ }
     ensures { λ r. ⌜ Interpreted LineOp.AppendToLine (now (text .entry)) pen (now (page .entry)) r (now (page .exit)) ⌝ }
 {
     if nothing_shows(pen.state) {
@@ -148,5 +191,8 @@ pub fn interpret_part(page: &mut [u8], pen: Pen, text: &[u8]) -> Pen
             state: pen.state,
         };
     }
-    interpret(page, pen, LineOp::AppendToLine, text)
+    if text.len() == 0 {
+        return pen;
+    }
+    begin_part(page, pen, text)
 }

@@ -8,7 +8,7 @@ ghost use Prim.Native.Nat.{_<_, _^_};
 ghost use Rattle.rules.specs.Bytes.{newline};
 ghost use Rattle.rules.specs.Lines.{text-ops, start, after, break, ignored, indent, unindent};
 ghost use Rattle.lines.specs.Said.{line-of, waiting-of, machine-of};
-ghost use Rattle.pages.specs.States.{line-numbered, waiting-numbered, form-numbered, break-numbered, machine-in, form-in, quiet, at-margin, Fits, Unseen};
+ghost use Rattle.pages.specs.States.{line-numbered, waiting-numbered, form-numbered, break-numbered, machine-in, form-in, quiet, at-margin, Fits, Unseen, line-then, line-ready, on-line};
 ghost use Rattle.pages.specs.declared.state.Form.the-variants as Form;
 
 // The breaks, as they wait.
@@ -23,11 +23,14 @@ pub enum Form {
 }
 
 // The weights of the parts: below the first stands the indent, above the last the line.
-const FORM: usize = 0x1_0000;
+pub const FORM: usize = 0x1_0000;
 
-const WAITING: usize = 0x2_0000;
+pub const WAITING: usize = 0x2_0000;
 
 const LINE: usize = 0x8_0000;
+
+// The number of a line with text.
+pub const TEXT: usize = 1;
 
 fn line_numbered(n: usize) -> LineState
     ensures { λ r. ⌜ line-of r ≡ line-numbered n ⌝ }
@@ -182,4 +185,32 @@ pub fn less_deep(state: usize) -> usize
     ensures { λ r. ⌜ Unseen unindent state r ⌝ }
 {
     state - 1
+}
+
+// The line's number once the waiting break is written: a newline empties it.
+pub fn line_then(state: usize) -> usize
+    ensures { λ r. ⌜ line-numbered r ≡ line-then (machine-in state) ⌝ }
+{
+    if 1 < state / WAITING % 4 {
+        return 0;
+    }
+    state / LINE
+}
+
+// The line's number before a part or a mark: it has text, or is brought to the indent.
+pub fn line_ready(state: usize) -> usize
+    ensures { λ r. ⌜ (line-numbered r ≡ line-ready (machine-in state)) × (r < 2 ^ 32) ⌝ }
+{
+    if line_then(state) == TEXT {
+        return TEXT;
+    }
+    state % FORM + 2
+}
+
+// The state on a line of another number, where no break waits.
+pub fn on_line(state: usize, line: usize) -> usize
+    requires { ⌜ line < 2 ^ 32 ⌝ }
+    ensures { λ r. ⌜ (machine-in r ≡ on-line (machine-in state) (line-numbered line)) × (form-in r ≡ form-in state) ⌝ }
+{
+    line * LINE + state % WAITING
 }

@@ -28,11 +28,10 @@ render-text-spec = tie.close (tie.spec (λ c κs. search needs) (λ c. search ne
     (λ c. let w : tie.After-tag = search in
     cut-text _ (search) (w .tag .given .1) (search) (c .before .field-at2 .ensures) (λ t from to e. ⊎-elim (λ k. omega arith) (λ k. omega arith) (rw e at (c .match2 .keys2))))
     (λ c. search rises) (λ c. search rises) (λ c. search ends)
-    (λ c κs. let i : tie.Else1 = search in let s : tie.Start = search in (omega (arith, s .pre), tt))
+    (λ c κs. tt)
     (λ c. search rises) (λ c. search rises) (λ c. search ends)
     (λ c κs. let a : tie.After-interpret-mark = search in let i : tie.Else1 = search in let s : tie.Start = search in
     omega (arith, quietly (a .interpret-mark .ensures) tt .indent-kept, s .pre))
     (λ c. search rises) (λ c. search rises) (λ c. search ends)
-    (λ c κs. let b : tie.After-render-bytes2 = search in let a : tie.After-interpret-mark = search in let i : tie.Else1 = search in let s : tie.Start = search in
-    (omega (arith, b .render-bytes2 .ensures .indent-kept, quietly (a .interpret-mark .ensures) tt .indent-kept, s .pre), tt))
+    (λ c κs. tt)
     (λ c. kept (returns-4 c)) returns-4)

@@ -1,5 +1,5 @@
 -- `pages::state::deeper` meets its contract: one more fits below the form.
-use Rattle.rules.proofs.Basics.{arith, needs}
+use Rattle.rules.proofs.Basics.{arith}
 use Rattle.pages.specs.States.{machine-in}
 use Rattle.pages.proofs.Breaks.{one-deeper}
 use Rattle.pages.proofs.state.deeper.Statement.{statement}

@@ -1,5 +1,5 @@
 -- `pages::state::less_deep` meets its contract: there is one to take off.
-use Rattle.rules.proofs.Basics.{arith, needs}
+use Rattle.rules.proofs.Basics.{arith}
 use Rattle.pages.specs.States.{machine-in}
 use Rattle.pages.proofs.Breaks.{one-less}
 use Rattle.pages.proofs.state.less_deep.Statement.{statement}

@@ -1,5 +1,5 @@
 -- `pages::walk::end_fragment` meets its contract: a break, or nothing.
-use Rattle.rules.proofs.Basics.{arith, needs}
+use Rattle.rules.proofs.Basics.{arith}
 use Rattle.pages.specs.States.{break-numbered}
 use Rattle.pages.specs.OpsIn.{behind-fragment}
 use Rattle.pages.proofs.Running.{nothing}
