@@ -28,7 +28,7 @@ fn ahead(s: &[u8], from: usize, so_far: ApproxLayout) -> Stretch
     let mut at = from;
     while at < s.len() {
         let to = field_end(s, at);
-        let own = approx_rigid_layout(&s[at..to]);
+        let own = approx_rigid_layout(s, at, to);
         if is_block(own) {
             let pre = first(own);
             return Stretch {

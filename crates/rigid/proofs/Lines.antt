@@ -1,8 +1,14 @@
 -- The bytes after the last newline, counted from the end, and a text by its parts.
-use Rattle.rules.proofs.Basics.{_≡_, refl, sym, ap, _∙_, List, [], _∷_, Bool, true, false, ℕ, zero, suc, _+_, _-_, _≤_, _<_, arith, length, drop, getD, drop-of-length-le, drop-cons, eq-eqb, ne-eqb}
+use Rattle.rules.proofs.Basics.{_≡_, refl, sym, ap, _∙_, List, [], _∷_, Bool, true, false, ℕ, zero, suc, _+_, _-_, _≤_, _<_, arith, length, take, drop, getD, drop-of-length-le, drop-cons, eq-eqb, ne-eqb}
 use Rattle.rules.specs.Bytes.{if_then_else_, newline}
-use Rattle.rules.specs.Layout.{Shape, Inline, Block, last, parts}
+use Rattle.rules.specs.Layout.{Shape, Inline, Block, last, parts, only-if-block}
+use lib.Seq.{slice}
+use Rattle.looks.specs.Calm.{Calm, Says}
+use Rattle.looks.proofs.CalmBytes.{calm-lacks}
+use Rattle.parts.specs.Walk.{part}
 use Rattle.texts.specs.FirstLine.{first-long}
+use Rattle.texts.proofs.Chunks.{no-newline}
+use Rattle.rigid.proofs.Places.{part-up-to, part-length}
 use Rattle.rigid.specs.RigidIn.{wide, by-parts, text-in, last-long}
 
 -- ---- after the last
@@ -131,3 +137,16 @@ module _ (w : ℕ) (v : List ℕ) {r : Shape} {first x : ℕ} (f : first ≡ fir
           → by-parts w (parts newline v .0) bs ≡ Block (wide (length (parts newline v .0)) w) (wide (length (last (parts newline v .0) bs)) w)
       go [] q = absurd (e (f ∙ all-first v q))
       go (b ∷ bs) q = refl
+
+-- a text in which a quick look found no newline
+pub calm-line : (w : ℕ) {s : List ℕ} {from to : ℕ} → from ≤ to → to ≤ length s → {b : Bool} → Says b (Calm 10 s from to) → b ≡ true
+    → {x : ℕ} → x ≡ wide (to - from) w → {r : Shape} → r ≡ Inline x 0 → r ≡ text-in w (part s from to)
+calm-line w {s} {from} {to} l h C t fx q =
+    let n : length (part s from to) ≡ to - from = part-length s from to l h in
+    let all : first-long (part s from to) ≡ length (part s from to) = rw (part-up-to s from to l) (no-newline (drop from (take to s)) (calm-lacks h l (C .says t))) in
+    one-line w (part s from to) (sym (all ∙ n)) fx (sym n) q
+
+pub calm-if-block : {s : List ℕ} {from to : ℕ} → from ≤ to → to ≤ length s → {b : Bool} → Says b (Calm 10 s from to) → b ≡ true
+    → {x : ℕ} → x ≡ wide (to - from) 10 → {r : Shape} → r ≡ Inline x x → r ≡ only-if-block (text-in 10 (part s from to))
+unfolding only-if-block
+calm-if-block l h C t fx q = q ∙ ap only-if-block (calm-line 10 l h C t fx refl)

@@ -1,6 +1,8 @@
 -- A chunk of bytes: whether it has a newline, and how it is passed.
 use Rattle.rules.proofs.Basics.{_≡_, refl, sym, _∙_, List, [], _∷_, Bool, true, false, _||_, or-true, or-false, ℕ, zero, suc, _+_, _-_, _≤_, _<_, arith, add-one, eqb, length, take, drop, getD, drop-of-length-le, length-drop, drop-cons, drop-drop, eq-eqb, ne-eqb}
+use lib.Seq.{take-length}
 use Rattle.rules.specs.Bytes.{has}
+use Rattle.rules.specs.Layout.{parts}
 use Rattle.texts.specs.FirstLine.{first-long, Passed}
 use Rattle.texts.proofs.Passing.{first-other}
 
@@ -56,6 +58,14 @@ over (suc n) [] l e = absurd (omega arith)
 over (suc n) (x ∷ s) l e =
     let one : first-long (x ∷ s) ≡ suc (first-long s) = first-other x s (not-first 10 x (has 10 (take n s)) e) in
     omega (arith, over n s (omega arith) (not-later (eqb 10 x) (has 10 (take n s)) e))
+
+-- all of them
+pub no-newline : (s : List ℕ) → has 10 s ≡ false → first-long s ≡ length s
+unfolding first-long parts
+no-newline s e =
+    let o : first-long s ≡ length s + first-long (drop (length s) s) = over (length s) s (omega arith) (rw (take-length s) e) in
+    let z : first-long (drop (length s) s) ≡ 0 = rw (drop-of-length-le s {i = length s} (omega arith)) in
+    omega (arith, o, z)
 
 pub chunk-passed : {v : List ℕ} {at : ℕ} → Passed v at → (n : ℕ) → n ≤ length v - at → {r : Bool}
     → r ≡ has 10 (take (at + n - at) (drop at v)) → r ≡ false → Passed v (at + n)
