@@ -7,6 +7,7 @@ use Rattle.rules.specs.Lines.{char, copied}
 use Rattle.rules.specs.Plain.{fill}
 use Rattle.writing.specs.Written.{Written}
 use Rattle.writing.proofs.Laws.{nothing, then}
+use Rattle.markup.specs.Runs.{escaped-text}
 use Rattle.markup.proofs.Fills.{fill-append, fill-makes}
 
 -- ---- one byte
@@ -29,9 +30,6 @@ module _ {page page′ : List ℕ} {at r : ℕ} (b : ℕ) where
 
 -- ---- a text
 
-abbrev pub escaped-text : List ℕ → List ℕ
-escaped-text s = fill itself (items-html escape (map (λ y. char (copied y)) s))
-
 pub no-bytes : escaped-text [] ≡ []
 unfolding items-html fill
 no-bytes = refl
@@ -44,7 +42,7 @@ pub escaped-append : (s u : List ℕ) → escaped-text (s ++ u) ≡ escaped-text
 escaped-append [] u = rw no-bytes
 escaped-append (a ∷ s) u = first-byte a (s ++ u) ∙ rw (escaped-append s u, first-byte a s, append-assoc)
 
-last-byte : (s : List ℕ) (b : ℕ) → escaped-text (s ++ (b ∷ [])) ≡ escaped-text s ++ escaped-byte b
+pub last-byte : (s : List ℕ) (b : ℕ) → escaped-text (s ++ (b ∷ [])) ≡ escaped-text s ++ escaped-byte b
 last-byte s b = escaped-append s (b ∷ []) ∙ rw (first-byte b [], no-bytes, append-nil)
 
 module _ {page : List ℕ} {at : ℕ} where

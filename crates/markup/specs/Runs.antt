@@ -1,25 +1,23 @@
 -- Bytes of a text that stand on the page as they are.
 use mathlib.Core.Path.{_≡_}
-use mathlib.Core.List.{List, [], _∷_}
-use Prim.Native.Nat.{ℕ, suc, _+_}
-use lib.ListN.{drop}
-use Rattle.rules.specs.Html.{Escape, ampersand, less-than, as-it-is, escape}
+use mathlib.Core.List.{List, map}
+use Prim.Native.Nat.{ℕ, _+_, _≤_}
+use lib.ListN.{length, take}
+use Rattle.rules.specs.Answers.{itself}
+use Rattle.rules.specs.Html.{escape, items-html}
+use Rattle.rules.specs.Lines.{char, copied}
+use Rattle.rules.specs.Plain.{fill}
+use Rattle.writing.specs.Written.{Written}
 
--- one byte more, unless it is escaped
-unfoldable pub longer : Escape → ℕ → ℕ
-longer ampersand n = 0
-longer less-than n = 0
-longer as-it-is n = suc n
+-- a text with its escapes
+abbrev pub escaped-text : List ℕ → List ℕ
+escaped-text s = fill itself (items-html escape (map (λ y. char (copied y)) s))
 
--- how many bytes come before the first that is escaped
-unfoldable pub plain-run : List ℕ → ℕ
-plain-run [] = 0
-plain-run (b ∷ text) = longer (escape b) (plain-run text)
+-- no byte is escaped
+pub record Plain (s : List ℕ) : Type 0 where
+  pub same : escaped-text s ≡ s
 
--- from i on the run ends where it ends from `from` on
-pub record Ahead (text : List ℕ) (from i : ℕ) : Type 0 where
-  pub same : from + plain-run (drop from text) ≡ i + plain-run (drop i text)
-
--- the bytes from `from` to r are left as they are, and then comes one that is not, or the end
-pub record RunsTo (text : List ℕ) (from r : ℕ) : Type 0 where
-  pub ends : r ≡ from + plain-run (drop from text)
+-- the first n bytes are written, each as one byte
+pub record Begun (page : List ℕ) (at : ℕ) (text page′ : List ℕ) (n : ℕ) : Type 0 where
+  pub within : n ≤ length text
+  pub written : Written page at (escaped-text (take n text)) page′ (at + n)

@@ -11,7 +11,7 @@ ghost use Rattle.rules.specs.Html.{escape, escaped, items-html};
 ghost use Rattle.rules.specs.Lines.{char, copied};
 ghost use Rattle.rules.specs.Plain.{fill};
 ghost use Rattle.writing.specs.Written.{Written};
-ghost use Rattle.markup.specs.Runs.{Ahead, RunsTo};
+ghost use Rattle.markup.specs.Runs.{Plain, Begun};
 
 // One byte. It has a function of its own so that the loop does not carry the escapes along.
 fn put_escape(page: &mut [u8], at: usize, b: u8) -> usize
@@ -37,15 +37,15 @@ fn is_escaped(b: u8) -> bool
     b == b'<'
 }
 
-// None of the WINDOW bytes from `from` on is escaped. All are looked at, so that the machine can do it at once.
-fn is_plain(text: &[u8], from: usize) -> bool
-    requires { ⌜ from + 8 ≤ length (now text) ⌝ }
-    ensures { λ r. ⌜ (r ≡ true → Ahead (now (text .entry)) from (from + 8)) ⌝ }
+// None of WINDOW bytes is escaped. All are looked at, so that the machine can do it at once.
+fn is_plain(text: &[u8]) -> bool
+    requires { ⌜ length (now text) ≡ 8 ⌝ }
+    ensures { λ r. ⌜ (r ≡ true → Plain (now (text .entry))) ⌝ }
 {
     let mut found = false;
     let mut k = 0;
     while k < WINDOW {
-        if is_escaped(text[from + k]) {
+        if is_escaped(text[k]) {
             found = true;
         }
         k += 1;
@@ -53,52 +53,79 @@ fn is_plain(text: &[u8], from: usize) -> bool
     !found
 }
 
-// Past the windows in which nothing is escaped.
-fn skip_plain(text: &[u8], from: usize) -> usize
-    requires { ⌜ from ≤ length (now text) ⌝ }
-    ensures { λ r. ⌜ Ahead (now (text .entry)) from r ⌝ }
+// WINDOW bytes in an array of their own, so that the machine reads all of them before it writes one.
+fn window(text: &[u8]) -> [u8; WINDOW]
+    requires { ⌜ length (now text) ≡ 8 ⌝ }
+    ensures { λ r. ⌜ r ≡ now (text .entry) ⌝ }
 {
-    let mut i = from;
-    while WINDOW <= text.len() - i {
-        if !is_plain(text, i) {
-            return i;
-        }
-        i += WINDOW;
+    let mut w = [0u8; WINDOW];
+    let mut k = 0;
+    while k < WINDOW {
+        w[k] = text[k];
+        k += 1;
     }
-    i
+    w
 }
 
-// Where the first byte from `from` on is that must be escaped, or the text's end.
-fn plain_end(text: &[u8], from: usize) -> usize
-    requires { ⌜ from ≤ length (now text) ⌝ }
-    ensures { λ r. ⌜ RunsTo (now (text .entry)) from r ⌝ }
+// The windows in which nothing is escaped, copied; how many bytes they are.
+fn copy_windows(page: &mut [u8], at: usize, text: &[u8]) -> usize
+    requires { ⌜ at + length (now text) ≤ length (now page) ⌝ }
+    ensures { λ r. ⌜ Begun (now (page .entry)) at (now (text .entry)) (now (page .exit)) r ⌝ }
 {
-    let mut i = skip_plain(text, from);
-    while i < text.len() {
-        if text[i] == b'&' {
-            return i;
+    let mut n = 0;
+    while WINDOW <= text.len() - n {
+        if !is_plain(&text[n..n + WINDOW]) {
+            return n;
         }
-        if text[i] == b'<' {
-            return i;
-        }
-        i += 1;
+        let w = window(&text[n..n + WINDOW]);
+        put_bytes(page, at + n, &w);
+        n += WINDOW;
     }
-    i
+    n
 }
 
-// A whole text, by runs: the bytes up to the next one that must be escaped are written at once.
+// The bytes up to the first that is escaped, copied; how many. No byte is tested against the page's end.
+fn copy_plain(page: &mut [u8], at: usize, text: &[u8]) -> usize
+    requires { ⌜ at + length (now text) ≤ length (now page) ⌝ }
+    ensures { λ r. ⌜ Begun (now (page .entry)) at (now (text .entry)) (now (page .exit)) r ⌝ }
+{
+    let mut n = copy_windows(page, at, text);
+    while n < text.len() {
+        let b = text[n];
+        if is_escaped(b) {
+            return n;
+        }
+        page[at + n] = b;
+        n += 1;
+    }
+    n
+}
+
+// Some bytes of a text that are left as they are, where all would fit; how many.
+fn put_plain(page: &mut [u8], at: usize, text: &[u8]) -> usize
+    ensures { λ r. ⌜ Begun (now (page .entry)) at (now (text .entry)) (now (page .exit)) r ⌝ }
+{
+    if at < page.len() {
+        if text.len() <= page.len() - at {
+            return copy_plain(page, at, text);
+        }
+    }
+    0
+}
+
+// A whole text: a run of bytes that are left as they are, then one byte by itself, and so on.
 pub fn put_escaped(page: &mut [u8], at: usize, text: &[u8]) -> usize
     ensures { λ r. ⌜ Written (now (page .entry)) at (fill itself (items-html escape (map (λ y. char (copied y)) (now (text .entry))))) (now (page .exit)) r ⌝ }
 {
     let mut next = at;
     let mut i = 0;
     while i < text.len() {
-        let end = plain_end(text, i);
-        next = put_bytes(page, next, &text[i..end]);
+        let n = put_plain(page, next, &text[i..]);
+        let end = i + n;
         if end == text.len() {
-            return next;
+            return next + n;
         }
-        next = put_escape(page, next, text[end]);
+        next = put_escape(page, next + n, text[end]);
         i = end + 1;
     }
     next
