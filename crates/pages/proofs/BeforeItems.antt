@@ -12,7 +12,7 @@ use Rattle.pages.specs.Ran.{shown, machine, form, Ran, IsMark, Interpret
 use Rattle.pages.specs.declared.state.Form as F
 use Rattle.pages.specs.declared.pen.Pen.{Pen}
 use Rattle.pages.proofs.Running.{shown-append, shown-nothing}
-use Rattle.pages.proofs.Pens.{shown-making}
+use Rattle.pages.proofs.Pens.{shown-making, shown-copies}
 use Rattle.pages.proofs.StateLaws.{indented-said, newline-said}
 
 -- ---- the rules' items are these bytes
@@ -37,7 +37,7 @@ spaced level rules.empty = levels-said 0 level
 spaced level (rules.indented-by k) = levels-said k level
 spaced level rules.has-text = refl
 
-item-says : (m : Machine) (is : List (Item ℕ)) (f : Line → Line) → item m false is f ≡ (making (ready-bytes m) ++ is, on-line m (f (line-ready m)))
+pub item-says : (m : Machine) (is : List (Item ℕ)) (f : Line → Line) → item m false is f ≡ (making (ready-bytes m) ++ is, on-line m (f (line-ready m)))
 unfolding item ready-bytes line-ready line-then on-line
 item-says m is f =
     let w : List (Item ℕ) × Line = release (m .waiting) (m .line) in
@@ -72,7 +72,7 @@ mark-item O.the-variants.AppendToLine v m q = absurd q
 mark-item O.the-variants.StartNewLine v m q = absurd q
 mark-item (O.the-variants.BreakIfWithinLine b) v m q = absurd q
 
-part-item : (v : List ℕ) (m : Machine) → 0 < length v → step m (part v) ≡ item m false (copies v) (λ l. rules.has-text)
+pub part-item : (v : List ℕ) (m : Machine) → 0 < length v → step m (part v) ≡ item m false (copies v) (λ l. rules.has-text)
 unfolding step copies
 part-item [] m h = absurd (omega arith)
 part-item (x ∷ v) m h = refl
@@ -87,6 +87,11 @@ module _ (v : List ℕ) {p p′ : Pen} {page page₁ page₂ : List ℕ} {b : �
       → (machine p′ ≡ on-line (machine p) (line-numbered 1)) × (form p′ ≡ form p) → Interpreted O.the-variants.AppendToLine v p page p′ page₂
   unfolding operation line-numbered
   part-ready h w′ (m, k) = record { ran = item-ran (part v) (copies v) (λ l. rules.has-text) (part-item v (machine p) h) w q w′ m k }
+
+-- on a plain page its bytes are its own
+pub plain-ready : (v : List ℕ) {p p′ : Pen} {page page₁ page₂ : List ℕ} {b : ℕ} → Written page (p .at) (ready-bytes (machine p)) page₁ b → form p ≡ F.the-variants.Plain → 0 < length v
+    → Written page₁ b v page₂ (p′ .at) → (machine p′ ≡ on-line (machine p) (line-numbered 1)) × (form p′ ≡ form p) → Interpreted O.the-variants.AppendToLine v p page p′ page₂
+plain-ready v w f h w′ o = part-ready v w (sym f) h (rw (shown-copies v) w′) o
 
 -- ---- a line's bytes, by its number
 

@@ -1,4 +1,5 @@
 -- Laws that the proofs of the code cite.
+pub mod Places
 pub mod EachOf
 pub mod OfLeaves
 pub mod OfTrees
@@ -14,6 +15,7 @@ pub mod Going
 pub mod TextLines
 pub mod Verbatim
 pub mod LeafLaws
+pub mod ShortTexts
 pub mod WalkLaws
 pub mod WholeLaws
 pub mod Determined

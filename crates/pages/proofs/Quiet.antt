@@ -6,7 +6,7 @@ use Rattle.writing.proofs.Laws as writing
 use Rattle.lines.specs.declared.LineOp as O
 use Rattle.lines.specs.Said.{operation, copies, own}
 use Rattle.pages.specs.Ran.{shown, machine, Ran, IsMark, Interpreted}
-use Rattle.pages.specs.States.{line-numbered, waiting-numbered, form-numbered, machine-in, form-in, quiet}
+use Rattle.pages.specs.States.{line-numbered, waiting-numbered, form-numbered, machine-in, form-in, quiet, waiting-bytes, line-bytes, line-then, ready-bytes}
 use Rattle.pages.specs.declared.state.Form as F
 use Rattle.pages.specs.declared.pen.Pen.{Pen}
 use Rattle.pages.proofs.Pens.{shown-copies, mark-shows-nothing}
@@ -24,6 +24,11 @@ quiet-machine n e =
     let w : (n / 131072) % 4 ≡ 0 = omega (arith, q) in
     let f : (n / 65536) % 2 ≡ 0 = omega (arith, q) in
     (rw (l, w) refl, rw f refl)
+
+-- nothing stands before an item there
+pub quiet-ready : (n : ℕ) {page : List ℕ} {at : ℕ} → quiet n ≡ true → Written page at (ready-bytes (machine-in n)) page at
+unfolding ready-bytes line-then release waiting-bytes line-bytes
+quiet-ready n e = rw (quiet-machine n e .0) writing.nothing
 
 -- an operation that leaves the line as it is
 quiet-ran : (o : LineOp ℕ) (is : List (Item ℕ)) → ((l : ℕ) → step (within-line l) o ≡ (is, within-line l)) → {p p′ : Pen} {page page′ : List ℕ} → quiet (p .state) ≡ true

@@ -101,7 +101,7 @@ module _ {p p′ : Pen} {page page′ : List ℕ} where
   quietly {op} {v} f q = record { ran = f .ran; indent-kept = indent-then (f .ran) ∙ level-kept (machine p) op v q }
 
   -- and the one that makes it deeper
-  pub deeper : Ran (rules.indent ∷ []) p page p′ page′ → indent-of p′ ≡ suc (indent-of p)
+  deeper : Ran (rules.indent ∷ []) p page p′ page′ → indent-of p′ ≡ suc (indent-of p)
   unfolding step indent-of
   deeper f = indent-then f
 

@@ -1,5 +1,5 @@
 -- The pen's number: its parts taken out and put together, and that a step's machine fits into one.
-use Rattle.rules.proofs.Basics.{_≡_, refl, sym, ap, _∙_, List, [], _∷_, some, Bool, true, false, ℕ, zero, suc, _+_, _*_, _/_, _%_, _^_, _<_, _≤_, max, arith}
+use Rattle.rules.proofs.Basics.{_≡_, refl, sym, ap, _∙_, List, [], _∷_, some, Bool, true, false, ℕ, zero, suc, _+_, _*_, _/_, _%_, _^_, _<_, _≤_, max, arith, eqb, eqb→eq}
 use Rattle.rules.specs.Lines as rules
 use Rattle.rules.specs.Lines.{Machine, Break, LineOp, part, mark, empty-anchor, new-line, break, step, item, release, spacing, broken, ignored}
 use Rattle.lines.specs.declared.LineState as L
@@ -32,6 +32,10 @@ pub html-said : (m : ℕ) → (m ≡ 0 → ⊥) → F.the-variants.Html ≡ form
 unfolding form-numbered
 html-said zero z = absurd (z refl)
 html-said (suc m) z = refl
+
+pub plain-said : (n : ℕ) → eqb ((n / 65536) % 2) 0 ≡ true → form-in n ≡ F.the-variants.Plain
+unfolding form-in form-numbered
+plain-said n e = ap form-numbered (eqb→eq ((n / 65536) % 2) 0 (rw e tt))
 
 -- ---- put together
 

@@ -1,40 +1,60 @@
 -- A node by its tag, an indented block, and the loops over fragments and nodes.
-use Rattle.rules.proofs.Basics.{_≡_, refl, List, [], _++_, Bool, true, false, ℕ, zero, suc, _-_, _≤_, arith, length, getD, take, drop, ne-eqb, le-leb}
+use Rattle.rules.proofs.Basics.{_≡_, refl, ap, _∙_, List, [], _++_, Bool, true, false, ℕ, zero, suc, _+_, _-_, _<_, _≤_, arith, eqb, length, getD, take, drop, ne-eqb, le-leb, lt-leb}
 use Rattle.rules.specs.Lines.{break, a-newline, indent, unindent}
-use Rattle.parts.proofs.Spans.{behind}
+use Rattle.rules.specs.Bytes.{if_then_else_}
+use Rattle.pages.proofs.Places.{long, first, behind}
 use Rattle.pages.specs.OpsIn.{Ops, each-from, leaf-in, node-by, behind-fragment, fragments-by, indented-by, node-in, three-in}
 use Rattle.pages.specs.States.{Unseen}
 use Rattle.pages.specs.Ran.{Rendered}
 use Rattle.pages.specs.declared.pen.Pen.{Pen}
-use Rattle.pages.proofs.Running.{and-then, indented}
+use Rattle.pages.proofs.Running.{nothing, and-then, indented}
 use Rattle.pages.proofs.Breaks.{unseen-ran, break-rendered}
 
 -- ---- a node
 
 -- what a 4 gives
-unfoldable pub four-in : (left : ℕ) → List ℕ → Ops
+unfoldable four-in : (left : ℕ) → List ℕ → Ops
 four-in zero h = []
 four-in (suc left) h = fragments-by false (node-in left false) h
 
-pub node-is : (left : ℕ) (directly : Bool) (h : List ℕ) → node-in left directly h ≡ node-by directly (three-in left h) (four-in left h) h
+node-is : (left : ℕ) (directly : Bool) (h : List ℕ) → node-in left directly h ≡ node-by directly (three-in left h) (four-in left h) h
 unfolding node-in three-in four-in
 node-is zero directly h = refl
 node-is (suc left) directly h = refl
 
-module _ (left : ℕ) (directly : Bool) (h : List ℕ) {p p′ : Pen} {page page′ : List ℕ} (l : 3 ≤ length h) where
-  pub node-four : getD h 0 0 ≡ 4 → (left ≡ 0 → ⊥) → Rendered (fragments-by false (node-in (left - 1) false) h) p page p′ page′
-      → Rendered (node-in left directly h) p page p′ page′
-  unfolding node-by four-in fragments-by
-  node-four e n r = rw (node-is left directly h, le-leb 3 (length h) l, e) (go left n r)
-    where
-      go : (left : ℕ) → (left ≡ 0 → ⊥) → Rendered (fragments-by false (node-in (left - 1) false) h) p page p′ page′ → Rendered (four-in left h) p page p′ page′
-      go zero n r = absurd (n refl)
-      go (suc left) n r = let e : suc left - 1 ≡ left = omega arith in rw e at r
+-- a node whose whole field stands at..to
+module _ (left : ℕ) (directly : Bool) (s : List ℕ) (at to : ℕ) (l : to ≤ length s) where
+  abbrev whole : List ℕ
+  whole = take (to - at) (drop at s)
 
-  pub node-leaf : (getD h 0 0 ≡ 3 → ⊥) → (getD h 0 0 ≡ 4 → ⊥) → Rendered (leaf-in directly (getD h 0 0) (take (length h - 3) (drop 3 h))) p page p′ page′
-      → Rendered (node-in left directly h) p page p′ page′
+  pub cut-node : {p : Pen} {page : List ℕ} → to - at < 3 → Rendered (node-in left directly whole) p page p page
   unfolding node-by
-  node-leaf n3 n4 r = rw (node-is left directly h, le-leb 3 (length h) l, ne-eqb (getD h 0 0) 3 n3, ne-eqb (getD h 0 0) 4 n4) (rw (behind h) at r)
+  cut-node h = rw (node-is left directly whole, lt-leb 3 (length whole) (rw (long s at to l) h)) nothing
+
+  module _ (w : 3 ≤ to - at) {t : ℕ} (e : getD s at 0 ≡ t) where
+    by-tag : node-in left directly whole ≡ (if eqb t 3 then three-in left whole else if eqb t 4 then four-in left whole else leaf-in directly t (drop 3 whole))
+    unfolding node-by
+    by-tag = node-is left directly whole ∙ rw (le-leb 3 (length whole) (rw (long s at to l) w), first s at to (omega (arith, w)) ∙ e) refl
+
+    pub node-three : {p p′ : Pen} {page page′ : List ℕ} → t ≡ 3 → Rendered (three-in left whole) p page p′ page′ → Rendered (node-in left directly whole) p page p′ page′
+    node-three q r = rw (by-tag, q) r
+
+    pub no-four : {p : Pen} {page : List ℕ} → t ≡ 4 → left ≡ 0 → Rendered (node-in left directly whole) p page p page
+    unfolding four-in
+    no-four q z = rw (by-tag, q, ap (λ (n : ℕ). four-in n whole) z) nothing
+
+    pub node-four : {p p′ : Pen} {page page′ : List ℕ} → t ≡ 4 → (left ≡ 0 → ⊥) → Rendered (fragments-by false (node-in (left - 1) false) whole) p page p′ page′
+        → Rendered (node-in left directly whole) p page p′ page′
+    unfolding four-in
+    node-four {p} {p′} {page} {page′} q n r = rw (by-tag, q) (go left n r)
+      where
+        go : (left : ℕ) → (left ≡ 0 → ⊥) → Rendered (fragments-by false (node-in (left - 1) false) whole) p page p′ page′ → Rendered (four-in left whole) p page p′ page′
+        go zero n r = absurd (n refl)
+        go (suc left) n r = let e : suc left - 1 ≡ left = omega arith in rw e at r
+
+    pub node-leaf : {p p′ : Pen} {page page′ : List ℕ} → (t ≡ 3 → ⊥) → (t ≡ 4 → ⊥) → Rendered (leaf-in directly t (take (to - (at + 3)) (drop (at + 3) s))) p page p′ page′
+        → Rendered (node-in left directly whole) p page p′ page′
+    node-leaf n3 n4 r = rw (by-tag, ne-eqb t 3 n3, ne-eqb t 4 n4, behind s at to 3 (omega (arith, w))) r
 
 -- ---- an indented block
 

@@ -3,14 +3,19 @@ use crate::bytes::render_bytes;
 use crate::pen::Pen;
 use crate::pen::interpret;
 use crate::pen::interpret_mark;
+use crate::pen::plain_part;
+use crate::quick::one_line;
+use crate::quick::text_from;
 use crate::state::NEWLINE;
 use crate::state::SPACE;
 use crate::state::broken;
+use crate::state::is_plain;
 use fields::Field;
 use fields::field_at;
 use lines::LineOp;
 use parts::field_end;
-ghost use Prim.Native.Nat.{_<_, _^_};
+ghost use Prim.Native.Nat.{_-_, _<_, _≤_, _^_};
+ghost use lib.ListN.{length, take, drop};
 ghost use Rattle.pages.specs.OpsIn.{run-in, run-field-in, each-from, anchor-in, if-block-in, leaf-in};
 ghost use Rattle.pages.specs.Ran.{indent-of, Rendered};
 
@@ -38,15 +43,36 @@ fn render_text(v: &[u8], page: &mut [u8], pen: Pen) -> Pen
     interpret_mark(page, inside, LineOp::PopStyles, &v[from..to])
 }
 
-// A field of a 2 behind its name.
-fn render_run(h: &[u8], page: &mut [u8], pen: Pen) -> Pen
-    requires { ⌜ indent-of pen < 2 ^ 15 ⌝ }
-    ensures { λ r. ⌜ Rendered (run-field-in (now (h .entry))) pen (now (page .entry)) r (now (page .exit)) ⌝ }
+// The field at..to of a 2 behind its name. It does what `render_one` does; each has one place where it is called, so that the compiler puts it there.
+fn render_run(v: &[u8], at: usize, to: usize, page: &mut [u8], pen: Pen) -> Pen
+    requires { ⌜ (indent-of pen < 2 ^ 15) × (at ≤ to) × (to ≤ length (now v)) ⌝ }
+    ensures { λ r. ⌜ Rendered (run-field-in (take (to - at) (drop at (now (v .entry))))) pen (now (page .entry)) r (now (page .exit)) ⌝ }
 {
-    if h.len() < 3 {
+    if to - at < 3 {
         return pen;
     }
-    render_text(&h[3..], page, pen)
+    let start = at + 3;
+    if is_plain(pen.state) {
+        let from = start + text_from(&v[start..to]);
+        if one_line(v, from, to) {
+            return plain_part(page, pen, &v[from..to]);
+        }
+    }
+    render_text(&v[start..to], page, pen)
+}
+
+// A 1, whose value stands at start..to.
+fn render_one(s: &[u8], start: usize, to: usize, page: &mut [u8], pen: Pen) -> Pen
+    requires { ⌜ (indent-of pen < 2 ^ 15) × (start ≤ to) × (to ≤ length (now s)) ⌝ }
+    ensures { λ r. ⌜ Rendered (run-in (take (to - start) (drop start (now (s .entry))))) pen (now (page .entry)) r (now (page .exit)) ⌝ }
+{
+    if is_plain(pen.state) {
+        let from = start + text_from(&s[start..to]);
+        if one_line(s, from, to) {
+            return plain_part(page, pen, &s[from..to]);
+        }
+    }
+    render_text(&s[start..to], page, pen)
 }
 
 // The fields of a 2 from `from` on.
@@ -58,7 +84,7 @@ fn render_runs(v: &[u8], from: usize, page: &mut [u8], pen: Pen) -> Pen
     let mut at = from;
     while at < v.len() {
         let to = field_end(v, at);
-        p = render_run(&v[at..to], page, p);
+        p = render_run(v, at, to, page, p);
         at = to;
     }
     p
@@ -92,14 +118,22 @@ fn render_if_block(v: &[u8], page: &mut [u8], pen: Pen, directly_in_block: bool)
     pen
 }
 
-// A node that is no block, by its tag.
-pub fn render_leaf(tag: u8, v: &[u8], page: &mut [u8], pen: Pen, directly_in_block: bool) -> Pen
-    requires { ⌜ indent-of pen < 2 ^ 15 ⌝ }
-    ensures { λ r. ⌜ Rendered (leaf-in «directly_in_block» tag (now (v .entry))) pen (now (page .entry)) r (now (page .exit)) ⌝ }
+// A node that is no block, by its tag; its value stands at from..to.
+pub fn render_leaf(
+    tag: u8,
+    s: &[u8],
+    from: usize,
+    to: usize,
+    page: &mut [u8],
+    pen: Pen,
+    directly_in_block: bool,
+) -> Pen
+    requires { ⌜ (indent-of pen < 2 ^ 15) × (from ≤ to) × (to ≤ length (now s)) ⌝ }
+    ensures { λ r. ⌜ Rendered (leaf-in «directly_in_block» tag (take (to - from) (drop from (now (s .entry))))) pen (now (page .entry)) r (now (page .exit)) ⌝ }
 {
     match tag {
-        1 => render_text(v, page, pen),
-        2 => render_anchor(v, page, pen),
+        1 => render_one(s, from, to, page, pen),
+        2 => render_anchor(&s[from..to], page, pen),
         5 => Pen {
             at: pen.at,
             state: broken(pen.state, SPACE),
@@ -108,7 +142,7 @@ pub fn render_leaf(tag: u8, v: &[u8], page: &mut [u8], pen: Pen, directly_in_blo
             at: pen.at,
             state: broken(pen.state, NEWLINE),
         },
-        7 => render_if_block(v, page, pen, directly_in_block),
+        7 => render_if_block(&s[from..to], page, pen, directly_in_block),
         _ => pen,
     }
 }

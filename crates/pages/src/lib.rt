@@ -4,6 +4,7 @@ pub mod bytes;
 pub mod frame;
 pub mod leaves;
 pub mod pen;
+pub mod quick;
 pub mod ready;
 pub mod state;
 pub mod walk;

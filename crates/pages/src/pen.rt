@@ -1,5 +1,6 @@
 // The pen: the line machine, and how far the page is written. One operation at a time.
 use crate::ready::put_ready;
+use crate::ready::put_ready_if_any;
 use crate::state::Form;
 use crate::state::TEXT;
 use crate::state::form_in;
@@ -21,6 +22,7 @@ use styles::read_styles;
 use writing::put;
 use writing::put_bytes;
 use writing::put_spaces;
+ghost use mathlib.Core.Path.{_≡_};
 ghost use mathlib.Core.List.{[], _∷_};
 ghost use Prim.Native.Nat.{_<_, _^_};
 ghost use lib.ListN.{length};
@@ -29,7 +31,7 @@ ghost use Rattle.writing.specs.Written.{Written};
 ghost use Rattle.lines.specs.Said.{break-bytes, before-bytes, copies, own};
 ghost use Rattle.lines.specs.declared.LineOp.the-variants as LineOp;
 ghost use Rattle.pages.specs.declared.state.Form.the-variants as Form;
-ghost use Rattle.pages.specs.Ran.{shown, indent-of, IsMark, Interpreted};
+ghost use Rattle.pages.specs.Ran.{shown, form, indent-of, IsMark, Interpreted};
 
 pub struct Pen {
     pub at: usize,
@@ -195,4 +197,17 @@ pub fn interpret_part(page: &mut [u8], pen: Pen, text: &[u8]) -> Pen
         return pen;
     }
     begin_part(page, pen, text)
+}
+
+// A part that has bytes, on a plain page.
+pub fn plain_part(page: &mut [u8], pen: Pen, text: &[u8]) -> Pen
+    requires { ⌜ (form pen ≡ Form.Plain) × (0 < length (now text)) ⌝ }
+    ensures { λ r. ⌜ Interpreted LineOp.AppendToLine (now (text .entry)) pen (now (page .entry)) r (now (page .exit)) ⌝ }
+{
+    let from = put_ready_if_any(page, pen.at, pen.state);
+    let at = put_bytes(page, from, text);
+    Pen {
+        at,
+        state: on_line(pen.state, TEXT),
+    }
 }

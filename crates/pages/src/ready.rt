@@ -3,6 +3,7 @@ use crate::state::FORM;
 use crate::state::TEXT;
 use crate::state::WAITING;
 use crate::state::line_then;
+use crate::state::nothing_shows;
 use writing::put;
 use writing::put_spaces;
 ghost use Prim.Native.Nat.{_<_, _^_};
@@ -47,4 +48,14 @@ pub fn put_ready(page: &mut [u8], at: usize, state: usize) -> usize
 {
     let from = put_waiting(page, at, state);
     put_levels(page, from, line_then(state), state % FORM)
+}
+
+// The same, where it is most often nothing.
+pub fn put_ready_if_any(page: &mut [u8], at: usize, state: usize) -> usize
+    ensures { λ r. ⌜ Written (now (page .entry)) at (ready-bytes (machine-in state)) (now (page .exit)) r ⌝ }
+{
+    if nothing_shows(state) {
+        return at;
+    }
+    put_ready(page, at, state)
 }

@@ -4,6 +4,7 @@ use lines::LineState;
 use lines::Machine;
 use lines::Waiting;
 ghost use mathlib.Core.Path.{_≡_};
+ghost use mathlib.Core.Bool.{true};
 ghost use Prim.Native.Nat.{_<_, _^_};
 ghost use Rattle.rules.specs.Bytes.{newline};
 ghost use Rattle.rules.specs.Lines.{text-ops, start, after, break, ignored, indent, unindent};
@@ -73,6 +74,13 @@ pub fn form_in(state: usize) -> Form
         return Form::Plain;
     }
     Form::Html
+}
+
+// The form is the plain one.
+pub fn is_plain(state: usize) -> bool
+    ensures { λ r. ⌜ (r ≡ true → form-in state ≡ Form.Plain) ⌝ }
+{
+    state / FORM % 2 == 0
 }
 
 fn line_number(line: LineState) -> usize

@@ -7,29 +7,38 @@ use crate::state::deeper;
 use crate::state::less_deep;
 use parts::field_end;
 ghost use mathlib.Core.List.{List};
-ghost use Prim.Native.Nat.{ℕ, _+_, _<_, _^_};
+ghost use Prim.Native.Nat.{ℕ, _+_, _-_, _<_, _≤_, _^_};
+ghost use lib.ListN.{length, take, drop};
 ghost use Rattle.pages.specs.OpsIn.{behind-fragment, fragments-by, three-in, node-in, fragment-in};
 ghost use Rattle.pages.specs.Ran.{indent-of, Rendered};
 
-// A node, whose whole field is s.
-fn render_node(s: &[u8], page: &mut [u8], pen: Pen, directly_in_block: bool, left: usize) -> Pen
-    requires { ⌜ indent-of pen + left < 2 ^ 15 ⌝ }
-    ensures { λ r. ⌜ Rendered (node-in left «directly_in_block» (now (s .entry))) pen (now (page .entry)) r (now (page .exit)) ⌝ }
+// A node, whose whole field stands at..to.
+fn render_node(
+    s: &[u8],
+    at: usize,
+    to: usize,
+    page: &mut [u8],
+    pen: Pen,
+    directly_in_block: bool,
+    left: usize,
+) -> Pen
+    requires { ⌜ (indent-of pen + left < 2 ^ 15) × (at ≤ to) × (to ≤ length (now s)) ⌝ }
+    ensures { λ r. ⌜ Rendered (node-in left «directly_in_block» (take (to - at) (drop at (now (s .entry))))) pen (now (page .entry)) r (now (page .exit)) ⌝ }
 {
-    if s.len() < 3 {
+    if to - at < 3 {
         return pen;
     }
-    let tag = s[0];
+    let tag = s[at];
     if tag == 3 {
-        return render_indented(s, page, pen, left);
+        return render_indented(&s[at..to], page, pen, left);
     }
     if tag == 4 {
         if left == 0 {
             return pen;
         }
-        return render_fragments(s, page, pen, false, left - 1);
+        return render_fragments(&s[at..to], page, pen, false, left - 1);
     }
-    render_leaf(tag, &s[3..], page, pen, directly_in_block)
+    render_leaf(tag, s, at + 3, to, page, pen, directly_in_block)
 }
 
 // An indented block, whose whole field is s.
@@ -102,7 +111,7 @@ pub fn render_fragment(
     let mut at = from;
     while at < s.len() {
         let to = field_end(s, at);
-        p = render_node(&s[at..to], page, p, directly_in_block, left);
+        p = render_node(s, at, to, page, p, directly_in_block, left);
         at = to;
     }
     p

@@ -1,13 +1,13 @@
 -- `render_node`, `render_indented`, `render_fragments` and `render_fragment` meet their contracts: the blocks that are left fall; each loop's invariant is `Going`.
-use Rattle.rules.proofs.Basics.{arith, length, needs, le-leb, lt-leb, ℕ, _+_, _*_, _-_}
+use Rattle.rules.proofs.Basics.{refl, arith, length, needs, ℕ, _+_, _*_, _-_}
 use Rattle.parts.proofs.Spans.{end-rises, end-within, end-less}
 use Rattle.pages.specs.States.{break-numbered}
 use Rattle.pages.specs.Ran.{indent-of}
-use Rattle.pages.specs.OpsIn.{node-by, fragments-by, node-in, three-in, fragment-in}
+use Rattle.pages.specs.OpsIn.{fragments-by, node-in, three-in, fragment-in}
 use Rattle.pages.proofs.Running.{nothing, and-then, kept}
 use Rattle.pages.proofs.Breaks.{break-level, indent-level}
 use Rattle.pages.proofs.Going.{Going, going-starts, going-more, going-ends}
-use Rattle.pages.proofs.WalkLaws.{four-in, node-is, node-four, node-leaf, a-three, fragment-ops}
+use Rattle.pages.proofs.WalkLaws.{cut-node, node-three, no-four, node-four, node-leaf, a-three, fragment-ops}
 use borrow.Fn.PlainCycle.{Measures}
 use Rattle.fields.proofs.Cycles.{at, below}
 use Rattle.pages.proofs.walk.render_fragment.Reads as render-fragment
@@ -45,7 +45,7 @@ abbrev μ-render-indented : Measures 2 render-indented-kinds.ps ℕ
 μ-render-indented κs a = 4 * a .1 .1 .1 .0
 
 abbrev μ-render-node : Measures 2 render-node-kinds.ps ℕ
-μ-render-node κs a = 4 * a .1 .1 .1 .1 .0 + 1
+μ-render-node κs a = 4 * a .1 .1 .1 .1 .1 .1 .0 + 1
 
 render-indented-returns-2 : (t : ℕ) → render-indented-lts.Need-returns-2 (deeper-reads.Asked, deeper-reads.Learnt, broken-reads.Asked, broken-reads.Learnt, below 2 render-fragments-kinds.ps μ-render-fragments render-fragments.Pre t, render-fragments.Post, less-deep-reads.Asked, less-deep-reads.Learnt) (at 2 render-indented-kinds.ps μ-render-indented render-indented.Pre t) render-indented.Post
 unfolding break-numbered
@@ -59,10 +59,10 @@ pub +render-fragment+render-fragments+render-indented+render-node-spec : {M : Ty
     (at 2 render-fragment-kinds.ps μ-render-fragment render-fragment.Pre t) render-fragment.Post
     (λ s from page₀ directly-in-block left p₀ at₀ page p at. Going (node-in left directly-in-block) at₀ s p₀ page₀ at p page)
     (λ s from page₀ directly-in-block left p₀ at₀ page p at. length s - at)
-    (λ c. going-starts) (λ c κs. search needs) (λ c. search end-rises) (λ c. search end-rises) (λ c. search end-within)
-    (λ c κs. (omega (arith, c .before .before .before .before .before .before .before .pre .0), omega (arith, c .before .before .before .before .loop .inv .rendered .indent-kept, c .before .before .before .before .before .before .before .pre .1)))
+    (λ c. going-starts) (λ c κs. search needs)
+    (λ c κs. (omega (arith, c .before .before .before .before .before .before .pre .0), (omega (arith, c .before .before .before .loop .inv .rendered .indent-kept, c .before .before .before .before .before .before .pre .1), end-rises (c .before .field-end .ensures) (c .before .before .loop-test .taken), end-within (c .before .field-end .ensures) (c .before .before .loop-test .taken))))
     (λ c. search end-less)
-    (λ c. going-more (c .before .before .before .before .before .before .before .loop .inv) (c .before .before .before .before .before .before .loop-test .taken) (c .before .before .before .before .before .field-end .ensures) (c .before .before .render-node .ensures))
+    (λ c. going-more (c .before .before .before .before .before .before .loop .inv) (c .before .before .before .before .before .loop-test .taken) (c .before .before .before .before .field-end .ensures) (c .before .before .render-node .ensures))
     (λ c. kept (c .before .loop .inv .rendered))
     (λ c. unfold fragment-in in going-ends (c .before .loop .inv) (c .loop-test .left)))
     (λ t. render-fragments-lts.spec
@@ -87,13 +87,14 @@ pub +render-fragment+render-fragments+render-indented+render-node-spec : {M : Ty
     λ t. render-node-lts.spec
     (below 2 render-indented-kinds.ps μ-render-indented render-indented.Pre t, render-indented.Post, below 2 render-fragments-kinds.ps μ-render-fragments render-fragments.Pre t, render-fragments.Post, render-leaf-reads.Asked, render-leaf-reads.Learnt)
     (at 2 render-node-kinds.ps μ-render-node render-node.Pre t) render-node.Post
-    (λ c. unfold node-by in rw (node-is, lt-leb _ _ (c .if1 .taken)) nothing) (λ c. omega arith)
-    (λ c κs. (omega (arith, c .before .before .before .before .before .before .pre .0), c .before .before .before .before .before .before .pre .1))
+    (λ c. search needs) (λ c. cut-node _ _ _ _ _ (c .before .before .before .pre .1 .2) (c .if1 .taken)) (λ c. omega (arith, c .before .before .before .before .pre .1 .2))
+    (λ c. search needs) (λ c. search needs) (λ c. search needs)
+    (λ c κs. (omega (arith, c .before .before .before .before .before .before .before .pre .0), c .before .before .before .before .before .before .before .pre .1 .0))
     (λ c. kept (c .before .before .render-indented .ensures))
-    (λ c. unfold node-by in rw (node-is, le-leb _ _ (c .before .before .before .before .before .before .if1 .left), c .before .before .before .before .if2 .taken) (c .before .before .render-indented .ensures))
-    (λ c. unfold node-by four-in in rw (node-is, le-leb _ _ (c .before .before .before .before .if1 .left), c .before .if3 .taken, c .if4 .taken) nothing) (λ c. omega arith)
-    (λ c κs. (omega (arith, c .before .before .before .before .before .before .before .before .pre .0), omega (arith, c .before .before .before .before .before .before .before .before .pre .1)))
+    (λ c. node-three _ _ _ _ _ (c .before .before .before .before .before .before .before .before .before .before .pre .1 .2) (c .before .before .before .before .before .before .before .if1 .left) refl (c .before .before .before .before .before .if2 .taken) (c .before .before .render-indented .ensures))
+    (λ c. no-four _ _ _ _ _ (c .before .before .before .before .before .before .before .pre .1 .2) (c .before .before .before .before .if1 .left) refl (c .before .if3 .taken) (c .if4 .taken)) (λ c. search needs) (λ c. search needs) (λ c. search needs) (λ c. omega arith)
+    (λ c κs. (omega (arith, c .before .before .before .before .before .before .before .before .before .pre .0), omega (arith, c .before .before .before .before .before .before .before .before .before .pre .1 .0)))
     (λ c. kept (c .before .before .render-fragments .ensures))
-    (λ c. node-four _ _ _ (c .before .before .before .before .before .before .before .before .if1 .left) (c .before .before .before .before .before .if3 .taken) (c .before .before .before .before .if4 .left) (c .before .before .render-fragments .ensures)) (λ c. omega arith) (λ c. omega arith) (λ c. search needs)
-    (λ c κs. omega (arith, c .before .before .before .before .before .before .before .before .pre .1)) (λ c. kept (c .before .before .render-leaf .ensures))
-    (λ c. node-leaf _ _ _ (c .before .before .before .before .before .before .before .before .if1 .left) (c .before .before .before .before .before .before .if2 .left) (c .before .before .before .before .before .if3 .left) (c .before .before .render-leaf .ensures))
+    (λ c. node-four _ _ _ _ _ (c .before .before .before .before .before .before .before .before .before .before .before .before .pre .1 .2) (c .before .before .before .before .before .before .before .before .before .if1 .left) refl (c .before .before .before .before .before .before .if3 .taken) (c .before .before .before .before .before .if4 .left) (c .before .before .render-fragments .ensures)) (λ c. search needs)
+    (λ c κs. (omega (arith, c .before .before .before .before .before .before .before .pre .1 .0), omega (arith, c .before .before .before .before .if1 .left), c .before .before .before .before .before .before .before .pre .1 .2)) (λ c. kept (c .before .before .render-leaf .ensures))
+    (λ c. node-leaf _ _ _ _ _ (c .before .before .before .before .before .before .before .before .before .before .pre .1 .2) (c .before .before .before .before .before .before .before .if1 .left) refl (c .before .before .before .before .before .if2 .left) (c .before .before .before .before .if3 .left) (c .before .before .render-leaf .ensures))
