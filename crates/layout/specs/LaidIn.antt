@@ -29,33 +29,25 @@ unfoldable pub past-in : (own so-far : Shape) → List ℕ → Shape
 past-in (Inline w e) so-far r = so-far
 past-in (Block pre post) so-far r = ahead-in (length r) (so-far ⊕ Block 0 post) r
 
--- the rigid Block that ends a stretch of fields: where it ends, the fields standing from `at` on, and what it has on its last line; 0 without one
-unfoldable pub closed : Shape → (to : ℕ) → ℕ × ℕ → ℕ × ℕ
-closed (Inline w e) to further = further
-closed (Block pre post) to further = (to, post)
+-- the end of a stretch of fields that stand from `at` on: where it is, and the rigid layout of the Block that ends it, or Inline at the last field
+abbrev pub Ending : Type 0
+Ending = ℕ × Shape
 
-unfoldable pub closing : ℕ → (at : ℕ) → List ℕ → ℕ × ℕ
-closing zero at s = (0, 0)
-closing (suc k) at [] = (0, 0)
+unfoldable pub closed : Shape → (to : ℕ) → Ending → Ending
+closed (Inline w e) to further = further
+closed (Block pre post) to further = (to, Block pre post)
+
+unfoldable pub closing : ℕ → (at : ℕ) → List ℕ → Ending
+closing zero at s = (at, Inline 0 0)
+closing (suc k) at [] = (at, Inline 0 0)
 closing (suc k) at (x ∷ s) =
-    let further : ℕ × ℕ = closing k (at + span (x ∷ s)) (rest (x ∷ s)) in
+    let further : Ending = closing k (at + span (x ∷ s)) (rest (x ∷ s)) in
     closed (rigid-in (here (x ∷ s))) (at + span (x ∷ s)) further
 
--- a stretch: what is laid out so far, and its Block
-abbrev pub Stretched : Type 0
-Stretched = Shape × (ℕ × ℕ)
-
--- the one that begins at `at`
-unfoldable pub stretch-in : (at : ℕ) → Shape → List ℕ → Stretched
-stretch-in at so-far s = (ahead-in (length (drop at s)) so-far (drop at s), closing (length (drop at s)) at (drop at s))
-
--- at a node: where the Block of a stretch has ended, the next one begins
-unfoldable pub entered-in : Stretched → (node : ℕ) → List ℕ → Stretched
-entered-in st node s = if eqb node (st .1 .0) then stretch-in node (st .0) s else st
-
--- behind a node that is laid out
-unfoldable pub behind-in : Stretched → (laid : Shape) → (to : ℕ) → Stretched
-behind-in st laid to = if eqb to (st .1 .0) then (laid ⊕ Block 0 (st .1 .1), st .1) else (laid, st .1)
+-- behind a stretch that is laid out: its Block is followed by what that has on its last line
+unfoldable pub behind-in : (last laid : Shape) → Shape
+behind-in (Inline w e) laid = laid
+behind-in (Block pre post) laid = laid ⊕ Block 0 post
 
 -- a block's fragments, each laid out by g and appended; h is the block's whole field
 unfoldable pub with-fragment : (List ℕ → Laid × List ℕ) → Laid → List ℕ → List ℕ → Laid × List ℕ

@@ -1,3 +1,4 @@
 -- Layout by the bytes of a file.
 pub mod LaidIn
+pub mod Stretches
 pub mod Said

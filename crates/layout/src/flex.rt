@@ -6,8 +6,8 @@ use crate::choice::laid_out;
 use crate::choice::larger;
 use crate::choice::room;
 use crate::stretch::Stretch;
+use crate::stretch::ahead;
 use crate::stretch::behind;
-use crate::stretch::entered;
 use parts::field_end;
 use rules::INDENTATION;
 use shapes::ApproxLayout;
@@ -20,6 +20,7 @@ ghost use Rattle.shapes.specs.Shapes.{shape};
 ghost use Rattle.parts.specs.Walk.{Is};
 ghost use Rattle.layout.specs.Said.{said};
 ghost use Rattle.layout.specs.LaidIn.{flex-in, fragments-in, fragment-in};
+ghost use Rattle.layout.specs.Stretches.{Path, Onwards};
 
 // A node, whose whole field is s, after what is laid out so far.
 fn approx_flex_layout(s: &mut [u8], widths: MaxWidths, so_far: ApproxLayout, left: usize) -> Laid
@@ -76,24 +77,44 @@ fn approx_fragments_layout(s: &mut [u8], widths: MaxWidths, left: usize) -> Laid
     Laid { layout, changed }
 }
 
-// A fragment's nodes, from `from` on: at the first node of a stretch its rigid layouts are appended, then each node's flexible one.
-pub fn approx_layout(s: &mut [u8], from: usize, widths: MaxWidths, left: usize) -> Laid
-    ensures { λ r. ⌜ Is (fragment-in left (widths .inline) (widths .block) from (now (s .entry))) (said r) (now (s .exit)) ⌝ }
+// The nodes of a stretch from `first` to `bound`, one after the other: each 3 and 4 is laid out.
+fn approx_stretch_layout(
+    s: &mut [u8],
+    first: usize,
+    bound: usize,
+    widths: MaxWidths,
+    so_far: ApproxLayout,
+    left: usize,
+) -> Laid
+    requires { ⌜ Path (now s) first bound ⌝ }
+    ensures { λ r. ⌜ Onwards (flex-in left (widths .inline) (widths .block)) first bound (shape «so_far») (now (s .entry)) (said r) (now (s .exit)) ⌝ }
 {
-    let mut st = Stretch {
-        layout: inline(0, 0),
-        stop: from,
-        post: 0,
-    };
+    let mut layout = so_far;
     let mut changed = 0;
-    let mut node = from;
-    while node < s.len() {
-        st = entered(st, s, node);
+    let mut node = first;
+    while node < bound {
         let end = field_end(s, node);
-        let l = approx_flex_layout(&mut s[node..end], widths, st.layout, left);
-        st = behind(st, l.layout, end);
+        let l = approx_flex_layout(&mut s[node..end], widths, layout, left);
+        layout = l.layout;
         changed = saturating_add(changed, l.changed);
         node = end;
     }
-    laid_out(st.layout, changed)
+    laid_out(layout, changed)
+}
+
+// A fragment's nodes, from `from` on, a stretch at a time: its rigid layouts are appended, then each node's flexible one.
+pub fn approx_layout(s: &mut [u8], from: usize, widths: MaxWidths, left: usize) -> Laid
+    ensures { λ r. ⌜ Is (fragment-in left (widths .inline) (widths .block) from (now (s .entry))) (said r) (now (s .exit)) ⌝ }
+{
+    let mut layout = inline(0, 0);
+    let mut changed = 0;
+    let mut at = from;
+    while at < s.len() {
+        let st = ahead(s, at, layout);
+        let l = approx_stretch_layout(s, st.first, st.bound, widths, st.layout, left);
+        layout = behind(l.layout, st.last);
+        changed = saturating_add(changed, l.changed);
+        at = st.stop;
+    }
+    laid_out(layout, changed)
 }

@@ -9,32 +9,69 @@ use shapes::inline;
 use shapes::is_block;
 use shapes::second;
 ghost use mathlib.Core.Path.{_≡_};
+ghost use mathlib.Core.Bool.{_||_};
+ghost use lib.Dec.{eqb};
+ghost use lib.ListN.{length};
+ghost use Prim.Native.Nat.{_<_};
+ghost use Rattle.rules.specs.Bytes.{if_then_else_};
 ghost use Rattle.shapes.specs.Shapes.{shape};
-ghost use Rattle.layout.specs.Said.{said-stretch};
-ghost use Rattle.layout.specs.LaidIn.{stretch-in, entered-in, behind-in};
+ghost use Rattle.layout.specs.LaidIn.{behind-in};
+ghost use Rattle.layout.specs.Stretches.{Stretched};
 
-// What is laid out so far; where the stretch's block ends, 0 without one; and what that block has on its last line.
+// What is laid out with the stretch's rigid layouts; where its first 3 or 4 stands and its last one ends, both where it begins without one; where the
+// stretch ends, and the rigid layout of the block that ends it, or part of a line without one.
 pub struct Stretch {
     pub layout: ApproxLayout,
+    pub first: usize,
+    pub bound: usize,
     pub stop: usize,
-    pub post: u16,
+    pub last: ApproxLayout,
+}
+
+// A 3 or a 4: only these are laid out again.
+fn is_flexible(tag: u8) -> bool
+    ensures { λ r. ⌜ r ≡ (eqb tag 3 || eqb tag 4) ⌝ }
+{
+    if tag == 3 {
+        return true;
+    }
+    tag == 4
+}
+
+// The first 3 or 4 of the stretch that begins at `from`, at a later one: `at` where none was seen.
+fn first_of(from: usize, first: usize, bound: usize, at: usize) -> usize
+    ensures { λ r. ⌜ r ≡ (if eqb bound from then at else first) ⌝ }
+{
+    if bound == from {
+        return at;
+    }
+    first
 }
 
 // The rigid layouts of the nodes of s from `from` on, up to the next block: what stands before it on its line belongs to the stretch.
-fn ahead(s: &[u8], from: usize, so_far: ApproxLayout) -> Stretch
-    ensures { λ r. ⌜ said-stretch r ≡ stretch-in from (shape «so_far») (now (s .entry)) ⌝ }
+pub fn ahead(s: &[u8], from: usize, so_far: ApproxLayout) -> Stretch
+    requires { ⌜ from < length (now s) ⌝ }
+    ensures { λ r. ⌜ Stretched (now (s .entry)) from (shape «so_far») (shape (r .layout)) (r .first) (r .bound) (r .stop, shape (r .last)) ⌝ }
 {
     let mut layout = so_far;
+    let mut start = from;
+    let mut bound = from;
     let mut at = from;
     while at < s.len() {
         let to = field_end(s, at);
+        if is_flexible(s[at]) {
+            start = first_of(from, start, bound, at);
+            bound = to;
+        }
         let own = approx_rigid_layout(s, at, to);
         if is_block(own) {
             let pre = first(own);
             return Stretch {
                 layout: append(layout, inline(pre, 0)),
+                first: start,
+                bound,
                 stop: to,
-                post: second(own),
+                last: own,
             };
         }
         layout = append(layout, own);
@@ -42,35 +79,19 @@ fn ahead(s: &[u8], from: usize, so_far: ApproxLayout) -> Stretch
     }
     Stretch {
         layout,
-        stop: 0,
-        post: 0,
+        first: start,
+        bound,
+        stop: at,
+        last: inline(0, 0),
     }
 }
 
-// At a node: where the block of a stretch has ended, the next one begins.
-pub fn entered(st: Stretch, s: &[u8], node: usize) -> Stretch
-    ensures { λ r. ⌜ said-stretch r ≡ entered-in (said-stretch st) node (now (s .entry)) ⌝ }
+// Behind a stretch that is laid out: its block is followed by what that has on its last line.
+pub fn behind(laid: ApproxLayout, last: ApproxLayout) -> ApproxLayout
+    ensures { λ r. ⌜ shape r ≡ behind-in (shape last) (shape laid) ⌝ }
 {
-    if node == st.stop {
-        return ahead(s, node, st.layout);
+    if is_block(last) {
+        return append(laid, block_or_mixed(0, second(last)));
     }
-    st
-}
-
-// Behind a node that ends at `end`, once it is laid out: the stretch's block is followed by its last line.
-pub fn behind(st: Stretch, laid: ApproxLayout, end: usize) -> Stretch
-    ensures { λ r. ⌜ said-stretch r ≡ behind-in (said-stretch st) (shape laid) end ⌝ }
-{
-    if end == st.stop {
-        return Stretch {
-            layout: append(laid, block_or_mixed(0, st.post)),
-            stop: st.stop,
-            post: st.post,
-        };
-    }
-    Stretch {
-        layout: laid,
-        stop: st.stop,
-        post: st.post,
-    }
+    laid
 }

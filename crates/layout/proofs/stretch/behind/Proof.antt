@@ -1,12 +1,12 @@
--- `layout::stretch::behind` meets its contract: behind its block, or behind another node.
-use Rattle.layout.specs.Said.{said-stretch}
-use Rattle.layout.proofs.StretchLaws.{behind-block}
-use Rattle.rules.proofs.Basics.{ne-eqb, needs}
+-- `layout::stretch::behind` meets its contract: behind a block, or behind the last node.
+use Rattle.rules.proofs.Basics.{refl, needs, ap, _∙_}
+use Rattle.shapes.proofs.Numbers.{line, lines}
+use Rattle.rules.specs.Layout.{_⊕_}
 use Rattle.layout.specs.LaidIn.{behind-in}
 use Rattle.layout.proofs.stretch.behind.Statement.{statement}
 use Rattle.layout.proofs.stretch.behind.Tie as tie
 
 pub behind-spec : {M : Type 1} → statement M
-behind-spec = tie.close (tie.spec (λ c κs. search needs) (λ c κs. search needs)
-    (λ c. unfold said-stretch in behind-block _ _ _ (c .before .before .if1 .taken) (c .before .block-or-mixed .ensures) (c .append .ensures))
-    (λ c. unfold said-stretch behind-in in rw (ne-eqb _ _ (c .if1 .left))))
+behind-spec = tie.close (tie.spec (λ c κs. search needs) (λ c κs. search needs) (λ c κs. search needs) (λ c κs. search needs)
+    (λ c. unfold behind-in in rw (lines _ (c .before .before .before .before .is-block .ensures) refl (c .before .before .second .ensures) (c .before .before .before .if1 .taken), ← c .before .block-or-mixed .ensures) (c .append .ensures))
+    (λ c. unfold behind-in in rw (line _ (c .before .is-block .ensures) refl refl (c .if1 .left))))
