@@ -1,10 +1,10 @@
 -- Runs of bytes that are not escaped, and what they are on the page.
-use Rattle.rules.proofs.Basics.{_≡_, sym, _∙_, Bool, true, false, not, not-true, false≢true, List, [], _∷_, ℕ, _+_, _-_, _^_, _<_, _≤_, add-one, arith, length, getD, set, take, drop, length-take-le, length-drop, take-all, take-suc, ne-eqb, eqb}
+use Rattle.rules.proofs.Basics.{_≡_, sym, _∙_, Bool, true, false, not, not-true, false≢true, List, [], _∷_, ℕ, suc, _+_, _-_, _^_, _<_, _≤_, min, max, add-one, arith, length, getD, set, take, drop, length-take-le, length-drop, take-all, take-suc, ne-eqb, eqb}
 use lib.Seq.{take-add}
 use Rattle.rules.specs.Html.{escape, escaped}
 use Rattle.rules.specs.Plain.{fill}
 use Rattle.writing.specs.Written.{last, moved, Written}
-use Rattle.writing.proofs.Laws.{then, kept}
+use Rattle.writing.proofs.Laws.{nothing, then, kept}
 use Rattle.writing.proofs.Turns.{stored}
 use Rattle.markup.specs.Runs.{escaped-text, Plain, Begun}
 use Rattle.markup.proofs.EscapeLaws.{escaped-byte, more, no-bytes, none-yet, escaped-append, last-byte, left-as-it-is, all}
@@ -41,6 +41,23 @@ none-found {text} {k} L h l o e s =
 pub looked-at : {text : List ℕ} {k : ℕ} {found : Bool} → Looked text k found → length text ≡ 8 → 8 ≤ k → not found ≡ true → Plain text
 looked-at {text} {k} L h l e = rw (take-all k text (omega arith)) at (L .plain (not-true _ e))
 
+-- the first k bytes of a window are on the page
+pub record Pasted (page : List ℕ) (at : ℕ) (w page′ : List ℕ) (k : ℕ) : Type 0 where
+  pub count : k ≤ 8
+  pub written : Written page at (take k w) page′ (at + k)
+
+pub none-pasted : (page : List ℕ) (at : ℕ) (w : List ℕ) → Pasted page at w page 0
+none-pasted page at w = let e : at + 0 ≡ at = omega arith in record { count = omega arith; written = rw e nothing }
+
+pub one-pasted : {page w page′ : List ℕ} {at k : ℕ} → Pasted page at w page′ k → k < 8 → length w ≡ 8 → at + 8 ≤ last → Pasted page at w (set page′ (at + k) (getD w k 0)) (k + 1)
+unfolding moved
+one-pasted {w = w} {page′} {at} {k} f h l r =
+    let e : at + suc k ≡ min (at + k + 1) (max (at + k) last) = omega arith in
+    record { count = omega arith; written = rw (add-one, take-suc w k 0 (omega arith)) (then (f .written) (stored page′ (at + k) (getD w k 0) e)) }
+
+pub all-pasted : {page w page′ : List ℕ} {at k : ℕ} → Pasted page at w page′ k → 8 ≤ k → length w ≡ 8 → Written page at w page′ (at + 8)
+all-pasted {w = w} {k = k} f h l = let e : k ≡ 8 = omega (arith, f .count) in let a : take 8 w ≡ w = take-all 8 w (omega arith) in rw (e, a) at (f .written)
+
 -- ---- a run that is copied
 
 pub none-begun : {page : List ℕ} {at : ℕ} {text : List ℕ} → Begun page at text page 0
@@ -48,16 +65,13 @@ none-begun {at = at} = let e : at + 0 ≡ at = omega arith in record { within = 
 
 module _ {page text page′ : List ℕ} {at n : ℕ} (f : Begun page at text page′ n) (room : at + length text ≤ last) where
   -- a window more
-  pub window-copied : {page″ w : List ℕ} {r : ℕ} → n + 8 ≤ length text → Plain (take (n + 8 - n) (drop n text)) → w ≡ take (n + 8 - n) (drop n text)
-      → Written page′ (at + n) w page″ r → Begun page at text page″ (n + 8)
-  unfolding moved
-  window-copied {page″} {r = r} h P q w =
+  pub window-copied : {page″ w : List ℕ} → n + 8 ≤ length text → Plain (take (n + 8 - n) (drop n text)) → w ≡ take (n + 8 - n) (drop n text)
+      → Written page′ (at + n) w page″ (at + n + 8) → Begun page at text page″ (n + 8)
+  window-copied {page″} h P q w =
       let e : n + 8 - n ≡ 8 = omega arith in
-      let l : length (take 8 (drop n text)) ≡ 8 = length-take-le 8 (drop n text) (omega (arith, length-drop n text)) in
-      let w′ : Written page′ (at + n) (take 8 (drop n text)) page″ r = rw (q, e) at w in
-      let k : r ≡ at + (n + 8) = omega (arith, l, w′ .next) in
+      let k : at + n + 8 ≡ at + (n + 8) = omega arith in
       let P′ : Plain (take 8 (drop n text)) = rw e at P in
-      record { within = h; written = rw (take-add n 8 text, escaped-append (take n text) (take 8 (drop n text)), P′ .same) (rw k at (then (f .written) w′)) }
+      record { within = h; written = rw (take-add n 8 text, escaped-append (take n text) (take 8 (drop n text)), P′ .same) (rw (q, e, k) at (then (f .written) w)) }
 
   -- a byte more
   pub byte-copied : n < length text → {r : Bool} → (r ≡ false → (getD text n 0 ≡ 38 → ⊥) × (getD text n 0 ≡ 60 → ⊥)) → r ≡ false

@@ -67,6 +67,18 @@ fn window(text: &[u8]) -> [u8; WINDOW]
     w
 }
 
+// A window on the page. No byte is tested against the page's end.
+fn paste(page: &mut [u8], at: usize, w: [u8; WINDOW])
+    requires { ⌜ at + 8 ≤ length (now page) ⌝ }
+    ensures { λ _. ⌜ Written (now (page .entry)) at w (now (page .exit)) (at + 8) ⌝ }
+{
+    let mut k = 0;
+    while k < WINDOW {
+        page[at + k] = w[k];
+        k += 1;
+    }
+}
+
 // The windows in which nothing is escaped, copied; how many bytes they are.
 fn copy_windows(page: &mut [u8], at: usize, text: &[u8]) -> usize
     requires { ⌜ at + length (now text) ≤ length (now page) ⌝ }
@@ -77,8 +89,7 @@ fn copy_windows(page: &mut [u8], at: usize, text: &[u8]) -> usize
         if !is_plain(&text[n..n + WINDOW]) {
             return n;
         }
-        let w = window(&text[n..n + WINDOW]);
-        put_bytes(page, at + n, &w);
+        paste(page, at + n, window(&text[n..n + WINDOW]));
         n += WINDOW;
     }
     n
