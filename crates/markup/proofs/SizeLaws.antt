@@ -1,6 +1,6 @@
 -- The effective size of a style, and its text.
 use Rattle.rules.proofs.Basics.{_≡_, refl, sym, subst, _∙_, List, [], _∷_, Bool, true, false, _||_, Option, none, some, ℕ, T, ℤ, pos}
-use lib.Signed.{_≤ℤ_, leZ-yes}
+use lib.Signed.{_≤ℤ_}
 use mir.Syntax.{w8}
 use mir.Val.{SFits, toZ, ofZ}
 use mir.Facts.{toZ-ofZ}
@@ -8,34 +8,38 @@ use Rattle.rules.specs.Bytes.{if_then_else_, ascii, join}
 use Rattle.rules.specs.Html.{size-css, script}
 use Rattle.rules.specs.Layout.{or-script, effective}
 use Rattle.rules.specs.Sizes.{em-text}
-use Rattle.rules.specs.Tree as rules
+use Rattle.rules.proofs.Open.{all-open}
 use Rattle.styles.specs.declared.Styles.{Styles}
-use Rattle.styles.specs.Said.{said-styles, or-zero, is-there, AllowedSize}
+use Rattle.styles.specs.Said.{flagged, said-styles, is-there, AllowedSize}
 
--- ---- its bound: the code passes it on as a signed byte
+-- ---- a size of the style's own: the code passes it on as a signed byte
 
-own-or-script : (o : Option ℤ) (b : Bool) → AllowedSize o → or-zero (or-script o b) ≤ℤ pos 117
-unfolding or-zero or-script
-own-or-script none true a = leZ-yes tt
-own-or-script none false a = leZ-yes tt
-own-or-script (some size) b a = a
+module _ (st : Styles) (e : st .«has_size» ≡ true) (f : SFits w8 (st .size)) where
+  pub own-allowed : AllowedSize (said-styles st .size) → toZ w8 (ofZ w8 (st .size)) ≤ℤ pos 117
+  unfolding said-styles flagged
+  own-allowed a = rw (toZ-ofZ f) (rw e at a)
 
-pub size-allowed : (s : rules.Styles) → AllowedSize (s .size) → {z : ℤ} → SFits w8 z → z ≡ or-zero (effective s) → toZ w8 (ofZ w8 z) ≤ℤ pos 117
-unfolding effective
-size-allowed s a f e = rw (toZ-ofZ f, e) (own-or-script (s .size) (s .subscript || s .superscript) a)
+  pub own-text : join (ascii "font-size:" ∷ em-text (toZ w8 (ofZ w8 (st .size))) ∷ ascii "em;" ∷ (if script (said-styles st) then [] else ascii "vertical-align:middle;") ∷ [])
+      ≡ size-css (effective (said-styles st)) (script (said-styles st))
+  unfolding size-css effective or-script said-styles flagged
+  own-text = rw (e, toZ-ofZ f)
 
--- ---- its text
+-- ---- none of its own
+
+smaller : (b : Bool) → is-there (or-script none b) ≡ true → join (ascii "font-size:0.8em;" ∷ []) ≡ size-css (or-script none b) b
+unfolding all-open is-there
+smaller true e = refl
+smaller false e = absurd (subst T (sym e) tt)
+
+pub script-text : (st : Styles) → st .«has_size» ≡ false → {r : Bool} → r ≡ is-there (effective (said-styles st)) → r ≡ true
+    → join (ascii "font-size:0.8em;" ∷ []) ≡ size-css (effective (said-styles st)) (script (said-styles st))
+unfolding effective script said-styles flagged
+script-text st e q t = let h = sym q ∙ t in rw e (smaller (st .subscript || st .superscript) (rw e at h))
 
 pub no-size : (o : Option ℤ) (b : Bool) → is-there o ≡ false → join [] ≡ size-css o b
 unfolding join size-css is-there
 no-size none b e = refl
 no-size (some size) b e = absurd (subst T e tt)
-
-pub size-text : (o : Option ℤ) (b : Bool) → is-there o ≡ true → {z : ℤ} → SFits w8 z → z ≡ or-zero o
-    → join (ascii "font-size:" ∷ em-text (toZ w8 (ofZ w8 z)) ∷ ascii "em;" ∷ (if b then [] else ascii "vertical-align:middle;") ∷ []) ≡ size-css o b
-unfolding size-css is-there or-zero
-size-text none b i f e = absurd (subst T (sym i) tt)
-size-text (some size) b i f e = rw (toZ-ofZ f ∙ e)
 
 -- ---- the alignment, which a script goes without
 
