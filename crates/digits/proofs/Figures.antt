@@ -1,36 +1,33 @@
--- The texts of numbers, written a part at a time.
-use Rattle.rules.proofs.Basics.{_≡_, refl, ap, _∙_, Bool, List, [], _∷_, ℕ, zero, suc, _+_, _-_, _/_, _%_, _^_, zero-le, pow-suc, div-div-eq-div-mul, add-one, arith, ℤ, pos, negsuc, natAbs, le-ltb}
+-- The texts of numbers, put together from the back.
+use Rattle.rules.proofs.Basics.{_≡_, ap, _∙_, Bool, List, ℕ, _+_, _/_, _^_, _≤_, zero-le, pow-suc, div-div-eq-div-mul, add-one, arith, ℤ, pos, negsuc, natAbs, le-ltb, length, drop-of-length-le, append-nil}
 use lib.Signed.{ltZ}
-use Rattle.rules.specs.Digits.{digit, digits, last-digits, fraction, sign, signed-digits, decimal-text}
-use Rattle.writing.specs.Written.{Written}
-use Rattle.writing.proofs.Laws.{then}
+use Rattle.rules.specs.Digits.{digits, fraction, sign, signed-digits, decimal-text}
+use Rattle.rules.specs.Digits as rules
 use Rattle.digits.specs.declared.Decimal as Code
 use Rattle.digits.specs.Said.{decimal-of}
-
--- ---- a sign: a number with one is its sign and its size
-pub signed : {page page′ page″ : List ℕ} {at next r : ℕ} (z : ℤ) {b : Bool} {n : ℕ} → b ≡ ltZ z (pos 0) → n ≡ natAbs z
-    → Written page at (sign b) page′ next → Written page′ next (digits n) page″ r → Written page at (signed-digits z) page″ r
-unfolding sign signed-digits
-signed (pos k) d e f g = rw (d ∙ le-ltb k 0 zero-le, e) at (then f g)
-signed (negsuc k) d e f g = rw (d, e) at (then f g)
-
--- ---- a point
+use Rattle.digits.specs.Ends.{room, Ends, Before}
 
 pub one-more-cut : (n cut : ℕ) {w : ℕ} → w ≡ n / 10 ^ cut → w / 10 ≡ n / 10 ^ (cut + 1)
 one-more-cut n cut e = ap (λ (w : ℕ). w / 10) e ∙ div-div-eq-div-mul n (10 ^ cut) 10 ∙ rw (add-one, pow-suc)
 
-pub all-cut : (n : ℕ) {cut places w : ℕ} → w ≡ n / 10 ^ cut → cut ≡ places → w ≡ n / 10 ^ places
-all-cut n e h = rw (← h) e
+-- digits alone
+pub alone : {l l′ text : List ℕ} {r : ℕ} → length l ≡ room → Before l room text l′ r → Ends l′ r text
+alone {l} {text = text} h B = record { long = B .long; within = B .within; says = B .says ∙ rw (drop-of-length-le l {i = room} (omega (arith, h))) (append-nil text) }
 
-pub point : {page page′ page″ : List ℕ} {at next r : ℕ} (n places : ℕ) → (places ≡ 0 → ⊥) → Written page at (46 ∷ []) page′ next
-    → Written page′ next (last-digits places n) page″ r → Written page at (fraction places n) page″ r
-unfolding fraction
-point n zero h f g = absurd (h refl)
-point n (suc p) h f g = then f g
+-- a number with a sign is its sign and its size
+pub signed : {l l′ l″ : List ℕ} {r s : ℕ} (z : ℤ) {b : Bool} {n : ℕ} → b ≡ ltZ z (pos 0) → n ≡ natAbs z
+    → length l ≡ room → Before l room (digits n) l′ r → Before l′ r (sign b) l″ s → Ends l″ s (signed-digits z)
+unfolding sign signed-digits
+signed (pos k) d e h B C = record { long = C .long; within = C .within; says = rw (d ∙ le-ltb k 0 zero-le, alone h B .says, e) at (C .says) }
+signed (negsuc k) d e h B C = record { long = C .long; within = C .within; says = rw (d, alone h B .says, e) at (C .says) }
 
 -- a decimal is its sign, what stands before its point, and the rest
-pub decimal : {page page′ page″ page‴ : List ℕ} {at from next r : ℕ} (d : Code.Decimal) {b : Bool} {w : ℕ}
-    → Written page at (sign b) page′ from → b ≡ d .negative → Written page′ from (digits w) page″ next → w ≡ d .whole / 10 ^ d .places
-    → Written page″ next (fraction (d .places) (d .whole)) page‴ r → Written page at (decimal-text (decimal-of d)) page‴ r
+pub decimal : {l l′ l″ : List ℕ} {p r s : ℕ} (d : Code.Decimal) {w : ℕ} → w ≡ d .whole / 10 ^ d .places → Ends l p (fraction (d .places) (d .whole))
+    → Before l p (digits w) l′ r → Before l′ r (sign (d .negative)) l″ s → Ends l″ s (decimal-text (decimal-of d))
 unfolding decimal-text decimal-of
-decimal d f e g v h = rw (e, v) at (then f (then g h))
+decimal d e E B C = record { long = C .long; within = C .within; says = rw (B .says, E .says, e) at (C .says) }
+
+-- the code's decimal has the places of the rules' one
+pub few-places : (d : Code.Decimal) {x : rules.Decimal} → decimal-of d ≡ x → {n : ℕ} → x .places ≤ n → d .places ≤ n
+unfolding decimal-of
+few-places d e h = let p = ap (λ (x : rules.Decimal). x .places) e in omega (arith, p, h)

@@ -4,14 +4,14 @@ use writing::put_bytes;
 ghost use mathlib.Core.Path.{_≡_};
 ghost use Prim.Native.Nat.{_-_, _/_, _%_, _^_, _≤_, _<_};
 ghost use lib.IntN.{natAbs};
-ghost use lib.ListN.{length, replicate};
-ghost use Rattle.rules.specs.Digits.{digit, digits, hex, hex-digit, signed-digits, last-digits, fraction, sign, decimal-text};
+ghost use lib.ListN.{length};
+ghost use Rattle.rules.specs.Digits.{digit, digits, hex, hex-digit, signed-digits, last-digits, sign, decimal-text};
 ghost use Rattle.writing.specs.Written.{Written};
 ghost use Rattle.digits.specs.Said.{decimal-of};
-ghost use Rattle.digits.specs.Ends.{most-digits, Ends};
+ghost use Rattle.digits.specs.Ends.{room, Ends, Before, Pointed};
 
-// The digits of the greatest number of 64 bits.
-const MOST_DIGITS: usize = 20;
+// The bytes in which a number's text is gathered, from the last one back: 20 digits at the most, a point and a sign.
+const ROOM: usize = 24;
 
 // A decimal: whole over 10 ^ places, with a sign in front where it is negative.
 pub struct Decimal {
@@ -26,12 +26,12 @@ fn last_digit(n: u64) -> u8
     48 + (n % 10) as u8
 }
 
-// The decimal digits of n over the end of `figures`, from the last one back; where they begin.
-fn fill_digits(figures: &mut [u8], n: u64) -> usize
-    requires { ⌜ length (now figures) ≡ most-digits ⌝ }
-    ensures { λ r. ⌜ Ends (now (figures .exit)) r (digits n) ⌝ }
+// The decimal digits of n before a place of `figures`, from the last one back; where they begin.
+fn fill_digits(figures: &mut [u8], end: usize, n: u64) -> usize
+    requires { ⌜ (length (now figures) ≡ room) × (2 ≤ end) × (end ≤ room) × (n < 10 ^ (end - 1)) ⌝ }
+    ensures { λ r. ⌜ (1 ≤ r) × Before (now (figures .entry)) end (digits n) (now (figures .exit)) r ⌝ }
 {
-    let mut at = MOST_DIGITS - 1;
+    let mut at = end - 1;
     let mut left = n;
     while left >= 10 {
         figures[at] = last_digit(left);
@@ -46,8 +46,8 @@ fn fill_digits(figures: &mut [u8], n: u64) -> usize
 pub fn put_digits(page: &mut [u8], at: usize, n: u64) -> usize
     ensures { λ r. ⌜ Written (now (page .entry)) at (digits n) (now (page .exit)) r ⌝ }
 {
-    let mut figures = [0u8; MOST_DIGITS];
-    let from = fill_digits(&mut figures, n);
+    let mut figures = [0u8; ROOM];
+    let from = fill_digits(&mut figures, ROOM, n);
     put_bytes(page, at, &figures[from..])
 }
 
@@ -70,14 +70,17 @@ pub fn put_hex(page: &mut [u8], at: usize, b: u8) -> usize
     put(page, next, hex_digit(b % 16))
 }
 
-// The sign of a negative number.
-fn put_sign(page: &mut [u8], at: usize, negative: bool) -> usize
-    ensures { λ r. ⌜ Written (now (page .entry)) at (sign negative) (now (page .exit)) r ⌝ }
+// The sign of a negative number before a place of `figures`; where the text begins then.
+fn fill_sign(figures: &mut [u8], from: usize, negative: bool) -> usize
+    requires { ⌜ (length (now figures) ≡ room) × (1 ≤ from) × (from ≤ room) ⌝ }
+    ensures { λ r. ⌜ Before (now (figures .entry)) from (sign negative) (now (figures .exit)) r ⌝ }
 {
     if negative {
-        return put(page, at, b'-');
+        let at = from - 1;
+        figures[at] = b'-';
+        return at;
     }
-    at
+    from
 }
 
 // How far a number is from zero. It is made wider first, since the least number has no opposite of its own width.
@@ -94,80 +97,58 @@ fn size(z: i32) -> u64
 pub fn put_signed(page: &mut [u8], at: usize, z: i32) -> usize
     ensures { λ r. ⌜ Written (now (page .entry)) at (signed-digits z) (now (page .exit)) r ⌝ }
 {
-    let next = put_sign(page, at, z < 0);
-    put_digits(page, next, size(z))
+    let mut figures = [0u8; ROOM];
+    let from = fill_digits(&mut figures, ROOM, size(z));
+    let start = fill_sign(&mut figures, from, z < 0);
+    put_bytes(page, at, &figures[start..])
 }
 
-// What stands before the point: n over 10 ^ places. The power itself may fit no number, so one place is cut at a time.
-fn before_point(n: u64, places: u64) -> u64
-    ensures { λ r. ⌜ r ≡ n / 10 ^ places ⌝ }
+// The last digits of n over the end of `figures`, as many as there are places, zeros included; what is left of n stands before the point.
+fn fill_places(figures: &mut [u8], n: u64, places: usize) -> u64
+    requires { ⌜ (length (now figures) ≡ room) × (places ≤ 20) ⌝ }
+    ensures { λ r. ⌜ (r ≡ n / 10 ^ places) × (r < 10 ^ (22 - places)) × Ends (now (figures .exit)) (room - places) (last-digits places n) ⌝ }
 {
-    let mut whole = n;
-    let mut cut = 0;
-    while cut < places {
-        whole = whole / 10;
-        cut += 1;
-    }
-    whole
-}
-
-// The last digits of n over the end of `figures`, as many as there are places, zeros included.
-fn fill_last_digits(figures: &mut [u8], n: u64, places: usize)
-    requires { ⌜ (length (now figures) ≡ most-digits) × (places ≤ most-digits) ⌝ }
-    ensures { λ _. ⌜ Ends (now (figures .exit)) (most-digits - places) (last-digits places n) ⌝ }
-{
-    let mut from = MOST_DIGITS;
+    let mut from = ROOM;
     let mut left = n;
-    while from > MOST_DIGITS - places {
+    while from > ROOM - places {
         from -= 1;
         figures[from] = last_digit(left);
         left = left / 10;
     }
+    left
 }
 
-fn put_zeros(page: &mut [u8], at: usize, n: u64) -> usize
-    ensures { λ r. ⌜ Written (now (page .entry)) at (replicate n 48) (now (page .exit)) r ⌝ }
-{
-    let mut next = at;
-    let mut i = 0;
-    while i < n {
-        next = put(page, next, b'0');
-        i += 1;
-    }
-    next
-}
-
-// The last digits of n, as many as there are places. A number has 20 digits at the most: what stands before them is zeros.
-fn put_last_digits(page: &mut [u8], at: usize, n: u64, places: u64) -> usize
-    ensures { λ r. ⌜ Written (now (page .entry)) at (last-digits places n) (now (page .exit)) r ⌝ }
-{
-    let mut figures = [0u8; MOST_DIGITS];
-    if places <= MOST_DIGITS as u64 {
-        let from = MOST_DIGITS - places as usize;
-        fill_last_digits(&mut figures, n, places as usize);
-        return put_bytes(page, at, &figures[from..]);
-    }
-    let next = put_zeros(page, at, places - MOST_DIGITS as u64);
-    fill_last_digits(&mut figures, n, MOST_DIGITS);
-    put_bytes(page, next, &figures)
-}
-
-// The point, and what stands behind it: nothing where there are no places.
-fn put_fraction(page: &mut [u8], at: usize, n: u64, places: u64) -> usize
-    ensures { λ r. ⌜ Written (now (page .entry)) at (fraction places n) (now (page .exit)) r ⌝ }
+// The point before the places; none where there are none. Where the fraction begins.
+fn fill_point(figures: &mut [u8], places: usize) -> usize
+    requires { ⌜ (length (now figures) ≡ room) × (places ≤ 20) ⌝ }
+    ensures { λ r. ⌜ Pointed (now (figures .entry)) places (now (figures .exit)) r ⌝ }
 {
     if places == 0 {
-        return at;
+        return ROOM;
     }
-    let next = put(page, at, b'.');
-    put_last_digits(page, next, n, places)
+    let at = ROOM - 1 - places;
+    figures[at] = b'.';
+    at
 }
 
-// A decimal: its sign, what stands before its point, and the rest.
+// A decimal over the end of `figures`: the places, the point, what stands before it, the sign; where it begins.
+fn fill_decimal(figures: &mut [u8], d: Decimal) -> usize
+    requires { ⌜ (length (now figures) ≡ room) × (d .places ≤ 20) ⌝ }
+    ensures { λ r. ⌜ Ends (now (figures .exit)) r (decimal-text (decimal-of d)) ⌝ }
+{
+    let places = d.places as usize;
+    let left = fill_places(figures, d.whole, places);
+    let point = fill_point(figures, places);
+    let from = fill_digits(figures, point, left);
+    fill_sign(figures, from, d.negative)
+}
+
+// A decimal.
 pub fn put_decimal(page: &mut [u8], at: usize, d: Decimal) -> usize
+    requires { ⌜ d .places ≤ 20 ⌝ }
     ensures { λ r. ⌜ Written (now (page .entry)) at (decimal-text (decimal-of d)) (now (page .exit)) r ⌝ }
 {
-    let signed = put_sign(page, at, d.negative);
-    let next = put_digits(page, signed, before_point(d.whole, d.places));
-    put_fraction(page, next, d.whole, d.places)
+    let mut figures = [0u8; ROOM];
+    let start = fill_decimal(&mut figures, d);
+    put_bytes(page, at, &figures[start..])
 }

@@ -3,6 +3,7 @@ pub mod Joins
 pub mod Fills
 pub mod ColourLaws
 pub mod WeightLaws
+pub mod PlaceLaws
 pub mod SizeLaws
 pub mod CssLaws
 pub mod TagLaws
