@@ -1,14 +1,33 @@
 -- The texts of numbers, put together from the back.
-use Rattle.rules.proofs.Basics.{_≡_, ap, _∙_, Bool, List, ℕ, _+_, _/_, _^_, _≤_, zero-le, pow-suc, div-div-eq-div-mul, add-one, arith, ℤ, pos, negsuc, natAbs, le-ltb, length, drop-of-length-le, append-nil}
+use Rattle.rules.proofs.Basics.{_≡_, sym, ap, _∙_, Bool, List, [], _∷_, ℕ, _+_, _/_, _%_, _^_, _≤_, _<_, zero-le, pow-suc, div-div-eq-div-mul, add-one, arith, ℤ, pos, negsuc, natAbs, le-ltb, length, drop-of-length-le, append-nil}
 use lib.Signed.{ltZ}
 use Rattle.rules.specs.Digits.{digits, fraction, sign, signed-digits, decimal-text}
 use Rattle.rules.specs.Digits as rules
+use Rattle.rules.proofs.Printed.{digits-small, digits-large}
 use Rattle.digits.specs.declared.Decimal as Code
 use Rattle.digits.specs.Said.{decimal-of}
 use Rattle.digits.specs.Ends.{room, Ends, Before}
 
 pub one-more-cut : (n cut : ℕ) {w : ℕ} → w ≡ n / 10 ^ cut → w / 10 ≡ n / 10 ^ (cut + 1)
 one-more-cut n cut e = ap (λ (w : ℕ). w / 10) e ∙ div-div-eq-div-mul n (10 ^ cut) 10 ∙ rw (add-one, pow-suc)
+
+-- ---- a byte
+
+pub one-digit : (b : ℕ) → b < 10 → (48 + b) ∷ [] ≡ digits b
+one-digit b h = let e : b % 10 ≡ b = omega arith in sym (digits-small b h ∙ rw e)
+
+pub two-digits : (b : ℕ) → 10 ≤ b → b < 100 → (48 + b / 10) ∷ (48 + b % 10) ∷ [] ≡ digits b
+two-digits b h l =
+    let k : b / 10 < 10 = omega arith in
+    rw (digits-large b h, ← (one-digit (b / 10) k))
+
+pub three-digits : (b : ℕ) → 100 ≤ b → b < 256 → (48 + b / 100) ∷ (48 + b / 10 % 10) ∷ (48 + b % 10) ∷ [] ≡ digits b
+three-digits b h l =
+    let e : b / 10 / 10 ≡ b / 100 = omega arith in
+    let k : 10 ≤ b = omega arith in
+    rw (digits-large b k, ← (two-digits (b / 10) (omega arith) (omega arith)), e)
+
+-- ---- texts from the back
 
 -- digits alone
 pub alone : {l l′ text : List ℕ} {r : ℕ} → length l ≡ room → Before l room text l′ r → Ends l′ r text

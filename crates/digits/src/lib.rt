@@ -26,7 +26,7 @@ fn last_digit(n: u64) -> u8
     48 + (n % 10) as u8
 }
 
-// The decimal digits of n before a place of `figures`, from the last one back; where they begin.
+// The decimal digits of n before a place of `figures`. The last comes out first, so they are gathered from the back; where they begin.
 fn fill_digits(figures: &mut [u8], end: usize, n: u64) -> usize
     requires { ⌜ (length (now figures) ≡ room) × (2 ≤ end) × (end ≤ room) × (n < 10 ^ (end - 1)) ⌝ }
     ensures { λ r. ⌜ (1 ≤ r) × Before (now (figures .entry)) end (digits n) (now (figures .exit)) r ⌝ }
@@ -42,13 +42,19 @@ fn fill_digits(figures: &mut [u8], end: usize, n: u64) -> usize
     at
 }
 
-// The decimal digits. The last comes out first, so they are gathered from the back and written as one slice.
-pub fn put_digits(page: &mut [u8], at: usize, n: u64) -> usize
-    ensures { λ r. ⌜ Written (now (page .entry)) at (digits n) (now (page .exit)) r ⌝ }
+// The decimal digits of a byte, one to three.
+pub fn put_byte(page: &mut [u8], at: usize, b: u8) -> usize
+    ensures { λ r. ⌜ Written (now (page .entry)) at (digits b) (now (page .exit)) r ⌝ }
 {
-    let mut figures = [0u8; ROOM];
-    let from = fill_digits(&mut figures, ROOM, n);
-    put_bytes(page, at, &figures[from..])
+    if b < 10 {
+        return put(page, at, 48 + b);
+    }
+    if b < 100 {
+        let two = [48 + b / 10, 48 + b % 10];
+        return put_bytes(page, at, &two);
+    }
+    let three = [48 + b / 100, 48 + b / 10 % 10, 48 + b % 10];
+    put_bytes(page, at, &three)
 }
 
 // A hexadecimal digit, in lower case.
