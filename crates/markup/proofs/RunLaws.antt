@@ -6,7 +6,7 @@ use Rattle.rules.specs.Plain.{fill}
 use Rattle.writing.specs.Written.{last, moved, Written}
 use Rattle.writing.proofs.Laws.{nothing, then, kept}
 use Rattle.writing.proofs.Turns.{stored}
-use Rattle.markup.specs.Runs.{escaped-text, Plain, Begun}
+use Rattle.markup.specs.Runs.{escaped-text, Plain, PlainTo, Begun}
 use Rattle.markup.proofs.EscapeLaws.{escaped-byte, more, no-bytes, none-yet, escaped-append, last-byte, left-as-it-is, all}
 
 -- ---- a window
@@ -80,6 +80,26 @@ module _ {page text page′ : List ℕ} {at n : ℕ} (f : Begun page at text pag
   byte-copied h o e =
       let b = getD text n 0 in
       record { within = omega arith; written = more text n (f .written) h (left-as-it-is b (o e .0) (o e .1) (stored page′ (at + n) b (omega arith))) }
+
+-- ---- windows that are counted
+
+pub none-counted : (text : List ℕ) → PlainTo text 0
+none-counted text = record { within = omega arith; plain = record { same = no-bytes } }
+
+pub window-counted : {text : List ℕ} {n : ℕ} → PlainTo text n → n + 8 ≤ length text → Plain (take (n + 8 - n) (drop n text)) → PlainTo text (n + 8)
+window-counted {text} {n} C h P =
+    let e : n + 8 - n ≡ 8 = omega arith in
+    let P′ : Plain (take 8 (drop n text)) = rw e at P in
+    record { within = h; plain = record { same = rw (take-add n 8 text, escaped-append (take n text) (take 8 (drop n text)), C .plain .same, P′ .same) } }
+
+pub byte-counted : {text : List ℕ} {n : ℕ} {r : Bool} → PlainTo text n → n < length text → (r ≡ false → (getD text n 0 ≡ 38 → ⊥) × (getD text n 0 ≡ 60 → ⊥)) → r ≡ false → PlainTo text (n + 1)
+byte-counted {text} {n} C h o e = record { within = omega arith; plain = one-plain text n (C .plain) h (o e .0) (o e .1) }
+
+pub counted-begun : {page text page′ : List ℕ} {at n r : ℕ} → PlainTo text n → n ≤ last - at → Written page at (take n text) page′ r → Begun page at text page′ n
+unfolding moved
+counted-begun {text = text} {at = at} {n} {r} C h w =
+    let e : r ≡ at + n = omega (arith, w .next, length-take-le n text (C .within)) in
+    record { within = C .within; written = rw (C .plain .same) (rw e at w) }
 
 pub begun-kept : {page text page′ : List ℕ} {at n : ℕ} → Begun page at text page′ n → length page′ ≡ length page
 begun-kept f = kept (f .written)

@@ -17,6 +17,11 @@ escaped-text s = fill itself (items-html escape (map (λ y. char (copied y)) s))
 pub record Plain (s : List ℕ) : Type 0 where
   pub same : escaped-text s ≡ s
 
+-- none of the first n bytes is escaped
+pub record PlainTo (text : List ℕ) (n : ℕ) : Type 0 where
+  pub within : n ≤ length text
+  pub plain : Plain (take n text)
+
 -- the first n bytes are written, each as one byte
 pub record Begun (page : List ℕ) (at : ℕ) (text page′ : List ℕ) (n : ℕ) : Type 0 where
   pub within : n ≤ length text

@@ -11,7 +11,7 @@ ghost use Rattle.rules.specs.Html.{escape, escaped, items-html};
 ghost use Rattle.rules.specs.Lines.{char, copied};
 ghost use Rattle.rules.specs.Plain.{fill};
 ghost use Rattle.writing.specs.Written.{Written};
-ghost use Rattle.markup.specs.Runs.{Plain, Begun};
+ghost use Rattle.markup.specs.Runs.{Plain, PlainTo, Begun};
 
 // One byte. It has a function of its own so that the loop does not carry the escapes along.
 fn put_escape(page: &mut [u8], at: usize, b: u8) -> usize
@@ -26,6 +26,9 @@ fn put_escape(page: &mut [u8], at: usize, b: u8) -> usize
 
 // So many bytes are looked at together.
 const WINDOW: usize = 8;
+
+// The last position.
+const LAST: usize = 0xffff_ffff_ffff_ffff;
 
 // One of the two bytes that are escaped.
 fn is_escaped(b: u8) -> bool
@@ -112,7 +115,47 @@ fn copy_plain(page: &mut [u8], at: usize, text: &[u8]) -> usize
     n
 }
 
-// Some bytes of a text that are left as they are, where all would fit; how many.
+// How many bytes the first windows have in which nothing is escaped.
+fn plain_windows(text: &[u8]) -> usize
+    ensures { λ r. ⌜ PlainTo (now (text .entry)) r ⌝ }
+{
+    let mut n = 0;
+    while WINDOW <= text.len() - n {
+        if !is_plain(&text[n..n + WINDOW]) {
+            return n;
+        }
+        n += WINDOW;
+    }
+    n
+}
+
+// How many bytes stand before the first that is escaped.
+fn plain_end(text: &[u8]) -> usize
+    ensures { λ r. ⌜ PlainTo (now (text .entry)) r ⌝ }
+{
+    let mut n = plain_windows(text);
+    while n < text.len() {
+        if is_escaped(text[n]) {
+            return n;
+        }
+        n += 1;
+    }
+    n
+}
+
+// These bytes as far as they fit, as in measuring, where nothing does; how many they are. Where positions end nothing is done at once.
+fn put_fitting(page: &mut [u8], at: usize, text: &[u8]) -> usize
+    ensures { λ r. ⌜ Begun (now (page .entry)) at (now (text .entry)) (now (page .exit)) r ⌝ }
+{
+    let n = plain_end(text);
+    if LAST - at < n {
+        return 0;
+    }
+    put_bytes(page, at, &text[..n]);
+    n
+}
+
+// Some bytes of a text that are left as they are; how many.
 fn put_plain(page: &mut [u8], at: usize, text: &[u8]) -> usize
     ensures { λ r. ⌜ Begun (now (page .entry)) at (now (text .entry)) (now (page .exit)) r ⌝ }
 {
@@ -121,7 +164,7 @@ fn put_plain(page: &mut [u8], at: usize, text: &[u8]) -> usize
             return copy_plain(page, at, text);
         }
     }
-    0
+    put_fitting(page, at, text)
 }
 
 // A whole text: a run of bytes that are left as they are, then one byte by itself, and so on.
