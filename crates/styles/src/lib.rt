@@ -15,12 +15,13 @@ ghost use Rattle.styles.specs.WidthIn.{script-with, width-with};
 use fields::Field;
 use fields::field_at;
 
-// A value stands beside its flag, and counts where the flag is set.
+// A value stands beside its flag, and counts where the flag is set. In this order there is no gap between the fields; one would be copied by itself whenever
+// a style is handed on.
 pub struct Styles {
     pub has_colour: bool,
     pub colour: [u8; 3],
-    pub has_opacity: bool,
     pub opacity: f32,
+    pub has_opacity: bool,
     pub has_thickness: bool,
     pub thickness: i8,
     pub has_size: bool,
@@ -37,8 +38,8 @@ pub fn none() -> Styles
     Styles {
         has_colour: false,
         colour: [0, 0, 0],
-        has_opacity: false,
         opacity: 0.0,
+        has_opacity: false,
         has_thickness: false,
         thickness: 0,
         has_size: false,
