@@ -1,5 +1,5 @@
 -- A window over a text, byte by byte.
-use Rattle.rules.proofs.Basics.{_≡_, sym, ap, subst, _∙_, List, Bool, true, false, not, false≢true, ⊎-elim, ℕ, _+_, _<_, _≤_, arith, getD, not-true}
+use Rattle.rules.proofs.Basics.{_≡_, refl, sym, ap, subst, _∙_, List, Bool, true, false, not, false≢true, ⊎-elim, ℕ, _+_, _<_, _≤_, arith, getD, ltb, ltb-true, ltb-false, not-true}
 use native.Mathlib.Nat.{eq-or-lt-of-le}
 use Rattle.looks.specs.Calm.{Fine, Calm, Says}
 
@@ -37,3 +37,11 @@ looked-at {odd} {s} {from} {k} {found} l g =
 -- a window around the text
 pub around : {odd : ℕ} {s : List ℕ} {from to a : ℕ} {r : Bool} → Says r (Calm odd s a (a + 8)) → a ≤ from → to ≤ a + 8 → Says r (Calm odd s from to)
 around w h l = record { says = λ e. record { each = λ k a b. w .says e .each k (omega (arith, a)) (omega (arith, b)) } }
+
+-- two windows, which meet or overlap
+pub joined : {odd : ℕ} {s : List ℕ} {from to a : ℕ} {t r : Bool} → Says t (Calm odd s from (from + 8)) → t ≡ true → Says r (Calm odd s a (a + 8)) → a ≤ from + 8 → to ≤ a + 8 → Says r (Calm odd s from to)
+joined {odd} {s} {from} {to} {a} {t} {r} v e w h g = record { says = λ q. record { each = λ k f l. go k f l q (ltb k a) refl } }
+  where
+    go : (k : ℕ) → from ≤ k → k < to → r ≡ true → (x : Bool) → ltb k a ≡ x → (getD s k 0 < 128) × (getD s k 0 ≡ odd → ⊥)
+    go k f l q true b = v .says e .each k f (omega (arith, ltb-true k a b))
+    go k f l q false b = w .says q .each k (ltb-false k a b) (omega (arith, l))

@@ -43,3 +43,23 @@ pub fn calm(s: &[u8], from: usize, to: usize, odd: u8) -> bool
     }
     calm_eight(s, to - 8, odd)
 }
+
+// The bytes from..to, where they are at most sixteen: the first eight, which may end behind them, and the last eight.
+pub fn calm_ahead(s: &[u8], from: usize, to: usize, odd: u8) -> bool
+    requires { ⌜ (from ≤ to) × (to ≤ length (now s)) ⌝ }
+    ensures { λ r. ⌜ Says r (Calm odd (now (s .entry)) from to) ⌝ }
+{
+    if 16 < to - from {
+        return false;
+    }
+    if s.len() - from < 8 {
+        return false;
+    }
+    if !calm_eight(s, from, odd) {
+        return false;
+    }
+    if to - from <= 8 {
+        return true;
+    }
+    calm_eight(s, to - 8, odd)
+}

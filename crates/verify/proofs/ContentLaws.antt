@@ -19,7 +19,7 @@ use Rattle.verify.proofs.Parts.{sliced}
 
 -- ---- texts and anchors
 
-if-sound : (b : Bool) → sound-if b ≡ Sound → b ≡ true
+pub if-sound : (b : Bool) → sound-if b ≡ Sound → b ≡ true
 if-sound true e = refl
 if-sound false e = no-path (cc)
 
@@ -61,6 +61,11 @@ module _ {s : List ℕ} {place from to : ℕ} (P : Between s place from to) {u :
       pub sound-name : b ≡ false → x ≡ accepted tt → x ≡ sound (anchor-content (slice from to s)) place
       unfolding sound need _>>_ anchor-content
       sound-name z q = simp (is-sound w, quote f, z) q
+
+-- bytes that are UTF-8
+pub utf8-text : (v : List ℕ) (p : ℕ) {x : Result (Unit {0})} → utf8 v ≡ true → x ≡ accepted tt → x ≡ sound (text-content v) p
+unfolding sound need _>>_ text-content
+utf8-text v p u q = simp u q
 
 -- calm bytes
 module _ {s : List ℕ} {place from to : ℕ} (P : Between s place from to) {odd : ℕ} (C : Calm odd s from to) {x : Result (Unit {0})} where

@@ -10,7 +10,7 @@ pub mod WalkLaws
 pub mod RestLaws
 pub mod LoopLaws
 pub mod TextLaws
-pub mod ColourLaws
+pub mod GlanceLaws
 pub mod CheckLaws
 pub mod Verdicts
 pub mod Determined

@@ -66,6 +66,11 @@ pub nothing-asked : (h : Holder) (ts : List ℕ) (p : ℕ) {x : Result (Unit {0}
 unfolding sound
 nothing-asked h ts p e q = rw e q
 
+-- a fragment without nodes
+pub no-nodes : {s : List ℕ} {from to : ℕ} (d : ℕ) → Between s 0 from to → to ≤ from → RestSaid in-fragment [] d 0 0 from (slice from to s) (accepted tt)
+unfolding complete
+no-nodes d P l = rest-none P in-fragment [] d 0 l (nothing-asked in-fragment [] 0 refl refl)
+
 -- nothing is asked of the tags
 abbrev pub Any : ℕ → List ℕ → Type 0
 Any before ts = Unit {0}

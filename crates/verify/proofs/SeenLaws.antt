@@ -25,7 +25,7 @@ module _ (s : Seen) (p : ℕ) where
 
 -- ---- the tags so far
 
-has-last : (n t : ℕ) (ts : List ℕ) → has n (ts ++ (t ∷ [])) ≡ (has n ts || eqb n t)
+pub has-last : (n t : ℕ) (ts : List ℕ) → has n (ts ++ (t ∷ [])) ≡ (has n ts || eqb n t)
 unfolding has
 has-last n t [] = or-false (eqb n t)
   where

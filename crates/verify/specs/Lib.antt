@@ -4,3 +4,4 @@ pub mod Seeing
 pub mod Contents
 pub mod Fronts
 pub mod Walked
+pub mod Glanced

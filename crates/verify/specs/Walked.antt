@@ -52,13 +52,6 @@ pub record Leaf (s : List ℕ) (t at to : ℕ) : Type 0 where
   pub node : Node s t at to
   pub no-block : is-block t ≡ false
 
--- the header of a colour at `from`, and a value that ends at `end`
-pub record Colour (s : List ℕ) (from end : ℕ) : Type 0 where
-  pub tag : getD s from 0 ≡ 32
-  pub high : getD s (from + 1) 0 ≡ 0
-  pub low : getD s (from + 2) 0 ≡ 3
-  pub ends : from + 6 ≡ end
-
 -- in a text, after the tags ts, the last of which is before: a 17 has not come, and what stands at `at`, if anything does, has to be one
 pub record TextLeft (before : ℕ) (ts s : List ℕ) (at end : ℕ) : Type 0 where
   pub none-yet : has 17 ts ≡ false

@@ -1,8 +1,8 @@
 // What holds no blocks: the fields of a 16, of a text and of an anchor. They stand from `from` to `end`, and the field that holds them at `place`.
-use crate::content::NONE;
 use crate::content::check_name;
 use crate::content::check_text;
 use crate::front::no_field;
+use crate::glance::is_styled;
 use crate::seen::Seen;
 use crate::seen::complete_styles;
 use crate::style::Styled;
@@ -15,17 +15,14 @@ use crate::verdict::Verdict;
 use crate::verdict::fault;
 use fields::Field;
 use fields::field_in;
-use looks::calm;
 ghost use mathlib.Core.Path.{_≡_};
 ghost use mathlib.Core.List.{List, []};
-ghost use Prim.Native.Nat.{ℕ, _+_, _<_, _≤_};
-ghost use lib.ListN.{length, getD};
+ghost use Prim.Native.Nat.{ℕ, _<_};
+ghost use lib.ListN.{getD};
 ghost use lib.Seq.{slice};
-ghost use Rattle.rules.specs.Result.{accepted};
 ghost use Rattle.rules.specs.Walk.{in-text, in-anchor, in-styles};
-ghost use Rattle.looks.specs.Calm.{Says};
 ghost use Rattle.verify.specs.Said.{verdict};
-ghost use Rattle.verify.specs.Walked.{RestSaid, ValueSaid, Between, Colour, TextLeft, Named};
+ghost use Rattle.verify.specs.Walked.{RestSaid, Between, TextLeft, Named};
 
 // The fields of a 16.
 fn check_styles(s: &[u8], from: usize, end: usize, place: usize) -> Verdict
@@ -50,34 +47,6 @@ fn check_styles(s: &[u8], from: usize, end: usize, place: usize) -> Verdict
         at = to;
     }
     complete_styles(seen, place)
-}
-
-// The fields of a 16, where they are a colour alone, as they mostly are.
-fn is_colour(s: &[u8], from: usize, end: usize) -> bool
-    requires { ⌜ (from ≤ end) × (end ≤ length (now s)) ⌝ }
-    ensures { λ r. ⌜ Says r (Colour (now (s .entry)) from end) ⌝ }
-{
-    if end - from != 6 {
-        return false;
-    }
-    if s[from] != 32 {
-        return false;
-    }
-    if s[from + 1] != 0 {
-        return false;
-    }
-    s[from + 2] == 3
-}
-
-// The fields of a 16, a colour alone by one look.
-fn check_style_fields(s: &[u8], from: usize, end: usize, place: usize) -> Verdict
-    requires { ⌜ Between (now s) place from end ⌝ }
-    ensures { λ r. ⌜ ((d : ℕ) → RestSaid in-styles [] d 0 place from (slice from end (now (s .entry))) (verdict r)) ⌝ }
-{
-    if is_colour(s, from, end) {
-        return SOUND;
-    }
-    check_styles(s, from, end, place)
 }
 
 // The 17 of a text, which is next or missing, and nothing behind it.
@@ -114,7 +83,7 @@ fn check_styled(s: &[u8], from: usize, end: usize, place: usize) -> Verdict
     let Field::Whole { tag, from: v, to } = f else {
         return no_field(from, end, true);
     };
-    let said = check_style_fields(s, v, to, from);
+    let said = check_styles(s, v, to, from);
     if said != SOUND {
         return said;
     }
@@ -128,6 +97,9 @@ pub fn check_text_fields(s: &[u8], from: usize, end: usize, place: usize) -> Ver
 {
     if from < end {
         if s[from] == 16 {
+            if is_styled(s, from, end) {
+                return SOUND;
+            }
             return check_styled(s, from, end, place);
         }
     }
@@ -177,34 +149,4 @@ pub fn check_anchor_fields(s: &[u8], from: usize, end: usize, place: usize) -> V
         return said;
     }
     check_runs(s, to, end, place)
-}
-
-// A text of one short 17 in ASCII, as most are; `false` says nothing. The node of the tag stands from `at` to `to`.
-pub fn is_quick(s: &[u8], at: usize, to: usize, tag: u8) -> bool
-    requires { ⌜ Between (now s) at (at + 3) to ⌝ }
-    ensures { λ r. ⌜ Says r ((d : ℕ) → ValueSaid tag d at (slice (at + 3) to (now (s .entry))) (accepted tt)) ⌝ }
-{
-    if tag != 1 {
-        return false;
-    }
-    let from = at + 3;
-    if from == to {
-        return false;
-    }
-    if s[from] != 17 {
-        return false;
-    }
-    let f = field_in(s, from, to);
-    let Field::Whole {
-        tag: t,
-        from: v,
-        to: e,
-    } = f
-    else {
-        return false;
-    };
-    if e != to {
-        return false;
-    }
-    calm(s, v, e, NONE)
 }

@@ -1,9 +1,9 @@
 // The walk: the fields of a fragment and of a block, from `from` to `end`, and the whole file.
 use crate::content::check_text;
 use crate::front::no_field;
+use crate::glance::is_quick;
 use crate::inner::check_anchor_fields;
 use crate::inner::check_text_fields;
-use crate::inner::is_quick;
 use crate::tables::in_fragment;
 use crate::tables::is_block;
 use crate::verdict::SOUND;
@@ -101,9 +101,11 @@ fn check_block(s: &[u8], from: usize, end: usize, depth: usize) -> Verdict
         if tag != 8 {
             return fault(4, at);
         }
-        let said = check_fragment(s, v, to, depth);
-        if said != SOUND {
-            return said;
+        if v < to {
+            let said = check_fragment(s, v, to, depth);
+            if said != SOUND {
+                return said;
+            }
         }
         at = to;
     }

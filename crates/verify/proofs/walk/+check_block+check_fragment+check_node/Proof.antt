@@ -10,7 +10,7 @@ use Rattle.verify.proofs.Parts.{part-anywhere}
 use Rattle.verify.proofs.SaidLaws.{sound-said, faulty-said}
 use Rattle.verify.proofs.ValueLaws.{piece-value, block-value, deep-value}
 use Rattle.verify.proofs.RestLaws.{field-there, begins, rising, small-place, small-end, value-part, in-the-part}
-use Rattle.verify.proofs.LoopLaws.{Come, Any, come-first, come-last, come-short, come-wrong, come-stops, come-on, piece-next, node-next, nothing-asked}
+use Rattle.verify.proofs.LoopLaws.{Come, Any, come-first, come-last, come-short, come-wrong, come-stops, come-on, piece-next, node-next, no-nodes, nothing-asked}
 use Rattle.verify.proofs.walk.check_block.Reads as check-block
 use Rattle.verify.proofs.walk.check_block.Kinds as check-block-kinds
 use Rattle.verify.proofs.walk.+check_block+check_fragment+check_node.Lts-check_block as check-block-lts
@@ -24,7 +24,7 @@ use Rattle.fields.proofs.field_in.Reads as field-in
 use Rattle.verify.proofs.front.no_field.Reads as no-field-reads
 use Rattle.verify.proofs.verdict.fault.Reads as fault-reads
 use Rattle.verify.proofs.tables.in_fragment.Reads as in-fragment-reads
-use Rattle.verify.proofs.inner.is_quick.Reads as is-quick
+use Rattle.verify.proofs.glance.is_quick.Reads as is-quick
 use Rattle.verify.proofs.tables.is_block.Reads as is-block
 use Rattle.verify.proofs.walk.check_leaf.Reads as check-leaf
 use Rattle.verify.proofs.walk.+check_block+check_fragment+check_node.{statement}
@@ -53,12 +53,15 @@ pub +check-block+check-fragment+check-node-spec : {M : Type 1} → statement M
     come-short C (g .before .loop-test .taken) (g .field-in .ensures) (λ t from to e. ⊎-elim (λ k. omega arith) (λ k. omega arith) (rw e at (m .match .keys2))) (piece-next _ _) (c .no-field .ensures))
     (λ c κs. (omega arith, (omega arith, small-place (c .before .before .before .before .before .before .loop .inv .1 .part))))
     (λ c. let w = c .before .before .before in let g = w .before .before in let l = g .before .before .loop in let P = l .inv .1 .part in let A = field-there P (g .field-in .ensures) (w .f .given .1) in come-wrong (l .inv .1) A (sym (piece-next _ _) ∙ ne-eqb _ 8 (c .before .if1 .taken)) (c .fault .ensures))
-    (λ c κs. let w = c .before .before in let g = w .before .before in let l = g .before .before .loop in let P = l .inv .1 .part in let A = field-there P (g .field-in .ensures) (w .f .given .1) in let h = in-the-part P A in let r = rising A in let q = begins A in let f = l .inv .0 in (omega (arith, g .before .before .before .before .pre .0, f, h, r, q), part-anywhere (value-part P A)))
-    (λ c. let w = c .before .before .before .before in let g = w .before .before in let l = g .before .before .loop in let P = l .inv .1 .part in let A = field-there P (g .field-in .ensures) (w .f .given .1) in let e = c .before .before .if1 .left in
-    come-stops (l .inv .1) A (sym (piece-next _ _) ∙ eq-eqb _ 8 e) (piece-value _ _ _ (begins A) e (c .before .check-fragment .ensures)) (faulty-said (c .if2 .taken)))
-    (λ c. let w = c .before .before .before .before in let g = w .before .before in let l = g .before .before .loop in let P = l .inv .1 .part in let A = field-there P (g .field-in .ensures) (w .f .given .1) in let h = in-the-part P A in let r = rising A in let q = begins A in omega (arith, h, r, q))
-    (λ c. let w = c .before .before .before .before in let g = w .before .before in let l = g .before .before .loop in let P = l .inv .1 .part in let A = field-there P (g .field-in .ensures) (w .f .given .1) in let h = in-the-part P A in let r = rising A in let q = begins A in let f = l .inv .0 in let e = c .before .before .if1 .left in
-    (omega (arith, f, r, q), come-on (l .inv .1) A (sym (piece-next _ _) ∙ eq-eqb _ 8 e) (rw (sound-said (c .if2 .left)) at (piece-value _ _ _ (begins A) e (c .before .check-fragment .ensures))) tt))
+    (λ c κs. let w = c .before .before .before in let g = w .before .before in let l = g .before .before .loop in let P = l .inv .1 .part in let A = field-there P (g .field-in .ensures) (w .f .given .1) in let h = in-the-part P A in let r = rising A in let q = begins A in let f = l .inv .0 in (omega (arith, g .before .before .before .before .pre .0, f, h, r, q), part-anywhere (value-part P A)))
+    (λ c. let w = c .before .before .before .before .before in let g = w .before .before in let l = g .before .before .loop in let P = l .inv .1 .part in let A = field-there P (g .field-in .ensures) (w .f .given .1) in let e = c .before .before .before .if1 .left in
+    come-stops (l .inv .1) A (sym (piece-next _ _) ∙ eq-eqb _ 8 e) (piece-value _ _ _ (begins A) e (c .before .check-fragment .ensures)) (faulty-said (c .if3 .taken)))
+    (λ c. let w = c .before .before .before .before .before in let g = w .before .before in let l = g .before .before .loop in let P = l .inv .1 .part in let A = field-there P (g .field-in .ensures) (w .f .given .1) in let h = in-the-part P A in let r = rising A in let q = begins A in omega (arith, h, r, q))
+    (λ c. let w = c .before .before .before .before .before in let g = w .before .before in let l = g .before .before .loop in let P = l .inv .1 .part in let A = field-there P (g .field-in .ensures) (w .f .given .1) in let h = in-the-part P A in let r = rising A in let q = begins A in let f = l .inv .0 in let e = c .before .before .before .if1 .left in
+    (omega (arith, f, r, q), come-on (l .inv .1) A (sym (piece-next _ _) ∙ eq-eqb _ 8 e) (rw (sound-said (c .if3 .left)) at (piece-value _ _ _ (begins A) e (c .before .check-fragment .ensures))) tt))
+    (λ c. let w = c .before .before .before in let g = w .before .before in let l = g .before .before .loop in let P = l .inv .1 .part in let A = field-there P (g .field-in .ensures) (w .f .given .1) in let h = in-the-part P A in let r = rising A in let q = begins A in omega (arith, h, r, q))
+    (λ c. let w = c .before .before .before in let g = w .before .before in let l = g .before .before .loop in let P = l .inv .1 .part in let A = field-there P (g .field-in .ensures) (w .f .given .1) in let h = in-the-part P A in let r = rising A in let q = begins A in let f = l .inv .0 in let e = c .before .if1 .left in
+    (omega (arith, f, r, q), come-on (l .inv .1) A (sym (piece-next _ _) ∙ eq-eqb _ 8 e) (piece-value _ _ _ (begins A) e (no-nodes _ (part-anywhere (value-part P A)) (c .if2 .left))) tt))
     (λ c. unfold verdict complete in let C = c .before .loop .inv .1 in come-last C (c .loop-test .left) (nothing-asked in-block (C .so-far) 0 refl refl)))
     (λ t. check-fragment-lts.spec
     (field-in.Asked, field-in.Learnt, in-fragment-reads.Asked, in-fragment-reads.Learnt, no-field-reads.Asked, no-field-reads.Learnt, fault-reads.Asked, fault-reads.Learnt, below 1 check-node-kinds.ps μ-node check-node.Pre t, check-node.Post)
