@@ -1,11 +1,11 @@
 -- The walk over the fields of some bytes: what is still to be put in, at a place.
-use Rattle.rules.proofs.Basics.{_≡_, refl, sym, _∙_, List, ℕ, zero, suc, _+_, _-_, _≤_, arith, length, take, drop, lt-leb}
+use Rattle.rules.proofs.Basics.{_≡_, refl, sym, ap, _∙_, List, ℕ, zero, suc, _+_, _-_, _≤_, arith, length, getD, take, drop, lt-leb}
 use Rattle.rules.specs.Tree.{Styles}
 use Rattle.fields.specs.declared.Field.{Field}
 use Rattle.fields.specs.declared.Field.the-variants.{Whole, Cut}
 use Rattle.fields.specs.FieldAt.{field-at}
-use Rattle.fields.proofs.Laws.{Inside, NotWhole, whole-inside, not-whole}
-use Rattle.styles.specs.StylesIn.{no-styles, with-field, past-field, styles-from, styles-in}
+use Rattle.fields.proofs.Laws.{Inside, NotWhole, whole, whole-inside, not-whole}
+use Rattle.styles.specs.StylesIn.{no-styles, with-field, past-field, styles-from, styles-in, ColourAlone}
 
 -- ---- what is left
 
@@ -46,3 +46,11 @@ unfolding field-at
 ended s at st h l =
     stopped s at st Cut (rw (lt-leb (at + 3) (length s) (omega arith)))
     (λ t from to e. let z : _≡_ {A = ℕ} 0 1 = cc in omega arith) l
+
+-- ---- a colour alone
+
+pub is-alone : (s : List ℕ) → length s ≡ 6 → getD s 0 0 ≡ 32 → getD s 1 0 ≡ 0 → getD s 2 0 ≡ 3 → ColourAlone s
+is-alone s l a b c = record { first = ap (λ (t : ℕ). Whole t 3 6) (sym a) ∙ whole s 0 3 (omega (arith, b, c)) (omega arith) (omega arith); last = l }
+
+pub alone-read : (s : List ℕ) → ColourAlone s → with-field no-styles 32 (take 3 (drop 3 s)) ≡ styles-in s
+alone-read s C = ended s 6 _ (omega (arith, C .last)) (next-left s 0 32 3 6 no-styles _ (C .first) refl (all-left s))

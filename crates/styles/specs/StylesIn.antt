@@ -1,5 +1,6 @@
 -- What the fields of some bytes make of a style, put in from the front.
 use mathlib.Core.List.{List}
+use mathlib.Core.Path.{_≡_}
 use mathlib.Core.Option.{none, some}
 use mathlib.Core.Bool.{Bool, false, _&&_, _||_}
 use Prim.Native.Nat.{ℕ, zero, suc, _-_}
@@ -60,3 +61,8 @@ styles-from (suc k) s at st = past-field s st (field-at s at) (λ to st′. styl
 
 unfoldable pub styles-in : List ℕ → Styles
 styles-in s = styles-from (length s) s 0 no-styles
+
+-- the fields are a colour alone
+pub record ColourAlone (s : List ℕ) : Type 0 where
+  pub first : Whole 32 3 6 ≡ field-at s 0
+  pub last : length s ≡ 6

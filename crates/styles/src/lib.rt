@@ -10,7 +10,7 @@ ghost use Rattle.rules.specs.Digits.{signed};
 ghost use Rattle.rules.specs.Walk.{right-opacity};
 ghost use Rattle.rules.specs.Layout as layout;
 ghost use Rattle.styles.specs.Said.{said-styles, or-zero, is-there, Allowed};
-ghost use Rattle.styles.specs.StylesIn.{no-styles, with-field, styles-in};
+ghost use Rattle.styles.specs.StylesIn.{no-styles, with-field, styles-in, ColourAlone};
 ghost use Rattle.styles.specs.WidthIn.{script-with, width-with};
 use fields::Field;
 use fields::field_at;
@@ -205,11 +205,30 @@ fn with_field(st: Styles, tag: u8, v: &[u8]) -> Styles
     }
 }
 
+// Whether the fields of some bytes are a colour alone, as those of most texts are.
+fn is_colour(v: &[u8]) -> bool
+    ensures { λ r. ⌜ (r ≡ true → ColourAlone (now (v .entry))) ⌝ }
+{
+    if v.len() != 6 {
+        return false;
+    }
+    if v[0] != 32 {
+        return false;
+    }
+    if v[1] != 0 {
+        return false;
+    }
+    v[2] == 3
+}
+
 // The style that the fields of some bytes say, put in from the front. A field that is not whole stops.
 pub fn read_styles(v: &[u8]) -> Styles
     ensures { λ r. ⌜ said-styles r ≡ styles-in (now (v .entry)) ⌝ }
 {
     let mut st = none();
+    if is_colour(v) {
+        return with_colour(st, &v[3..6]);
+    }
     let mut at = 0;
     while at < v.len() {
         let Field::Whole { tag, from, to } = field_at(v, at) else {
