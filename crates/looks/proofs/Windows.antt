@@ -38,10 +38,10 @@ looked-at {odd} {s} {from} {k} {found} l g =
 pub around : {odd : ℕ} {s : List ℕ} {from to a : ℕ} {r : Bool} → Says r (Calm odd s a (a + 8)) → a ≤ from → to ≤ a + 8 → Says r (Calm odd s from to)
 around w h l = record { says = λ e. record { each = λ k a b. w .says e .each k (omega (arith, a)) (omega (arith, b)) } }
 
--- two windows, which meet or overlap
-pub joined : {odd : ℕ} {s : List ℕ} {from to a : ℕ} {t r : Bool} → Says t (Calm odd s from (from + 8)) → t ≡ true → Says r (Calm odd s a (a + 8)) → a ≤ from + 8 → to ≤ a + 8 → Says r (Calm odd s from to)
-joined {odd} {s} {from} {to} {a} {t} {r} v e w h g = record { says = λ q. record { each = λ k f l. go k f l q (ltb k a) refl } }
+-- two parts, one behind the other
+pub joined : {odd : ℕ} {s : List ℕ} {from to mid : ℕ} {t r : Bool} → Says t (Calm odd s from mid) → t ≡ true → Says r (Calm odd s mid to) → Says r (Calm odd s from to)
+joined {odd} {s} {from} {to} {mid} {t} {r} v e w = record { says = λ q. record { each = λ k f l. go k f l q (ltb k mid) refl } }
   where
-    go : (k : ℕ) → from ≤ k → k < to → r ≡ true → (x : Bool) → ltb k a ≡ x → (getD s k 0 < 128) × (getD s k 0 ≡ odd → ⊥)
-    go k f l q true b = v .says e .each k f (omega (arith, ltb-true k a b))
-    go k f l q false b = w .says q .each k (ltb-false k a b) (omega (arith, l))
+    go : (k : ℕ) → from ≤ k → k < to → r ≡ true → (x : Bool) → ltb k mid ≡ x → (getD s k 0 < 128) × (getD s k 0 ≡ odd → ⊥)
+    go k f l q true b = v .says e .each k f (ltb-true k mid b)
+    go k f l q false b = w .says q .each k (ltb-false k mid b) l

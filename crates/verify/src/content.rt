@@ -7,9 +7,12 @@ use utf8::Utf8;
 use utf8::check_utf8;
 use utf8::has_quote;
 ghost use mathlib.Core.Path.{_≡_};
+ghost use Prim.Native.Nat.{_≤_};
+ghost use lib.ListN.{length};
 ghost use lib.Seq.{slice};
 ghost use Rattle.rules.specs.Result.{sound};
 ghost use Rattle.rules.specs.Walk.{text-content, anchor-content};
+ghost use Rattle.looks.specs.Calm.{Calm, Says};
 ghost use Rattle.verify.specs.Said.{verdict};
 ghost use Rattle.verify.specs.Walked.{Between};
 
@@ -30,12 +33,27 @@ pub fn check_text(s: &[u8], from: usize, to: usize, place: usize) -> Verdict
     SOUND
 }
 
+// A name of at most sixteen bytes: at once, or its beginning and its last eight.
+fn is_calm_name(s: &[u8], from: usize, to: usize) -> bool
+    requires { ⌜ (from ≤ to) × (to ≤ length (now s)) ⌝ }
+    ensures { λ r. ⌜ Says r (Calm 34 (now (s .entry)) from to) ⌝ }
+{
+    if to - from <= 8 {
+        return calm(s, from, to, b'"');
+    }
+    let mid = to - 8;
+    if calm(s, from, mid, b'"') {
+        return calm(s, mid, to, b'"');
+    }
+    false
+}
+
 // An anchor's name. UTF-8 comes before the quote.
 pub fn check_name(s: &[u8], from: usize, to: usize, place: usize) -> Verdict
     requires { ⌜ Between (now s) place from to ⌝ }
     ensures { λ r. ⌜ verdict r ≡ sound (anchor-content (slice from to (now (s .entry)))) place ⌝ }
 {
-    if calm(s, from, to, b'"') {
+    if is_calm_name(s, from, to) {
         return SOUND;
     }
     let v = &s[from..to];
