@@ -1,9 +1,10 @@
 -- A node by its tag, an indented block, and the loops over fragments and nodes.
-use Rattle.rules.proofs.Basics.{_≡_, refl, ap, _∙_, List, [], _++_, Bool, true, false, ℕ, zero, suc, _+_, _-_, _<_, _≤_, arith, eqb, length, getD, take, drop, ne-eqb, le-leb, lt-leb}
+use Rattle.rules.proofs.Basics.{_≡_, refl, ap, _∙_, List, [], _++_, Bool, true, false, ℕ, zero, suc, _+_, _-_, _<_, _≤_, arith, eqb, length, getD, take, drop, drop-of-length-le, ne-eqb, le-leb, lt-leb}
 use Rattle.rules.specs.Lines.{break, a-newline, indent, unindent}
 use Rattle.rules.specs.Bytes.{if_then_else_}
+use Rattle.pages.proofs.EachOf.{each-nil}
 use Rattle.pages.proofs.Places.{long, first, behind}
-use Rattle.pages.specs.OpsIn.{Ops, each-from, leaf-in, node-by, behind-fragment, fragments-by, indented-by, node-in, three-in}
+use Rattle.pages.specs.OpsIn.{Ops, each-from, leaf-in, node-by, behind-fragment, fragments-by, indented-by, node-in, three-in, fragment-in}
 use Rattle.pages.specs.States.{Unseen}
 use Rattle.pages.specs.Ran.{Rendered}
 use Rattle.pages.specs.declared.pen.Pen.{Pen}
@@ -70,3 +71,7 @@ a-three (suc left) h z d b r u = let e : suc left - 1 ≡ left = omega arith in 
 -- a fragment of a block, and what stands behind it
 unfoldable pub fragment-ops : (left : ℕ) (directly : Bool) → List ℕ → Ops
 fragment-ops left directly f = each-from (node-in left directly) 3 f ++ behind-fragment directly
+
+pub no-nodes : (left : ℕ) (directly : Bool) (s : List ℕ) {p : Pen} {page : List ℕ} → length s ≤ 3 → Rendered (fragment-in left directly 3 s) p page p page
+unfolding fragment-in each-from
+no-nodes left directly s h = rw (drop-of-length-le s h, each-nil (node-in left directly) (length s)) nothing

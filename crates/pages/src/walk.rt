@@ -88,11 +88,22 @@ fn render_fragments(
     let mut at = 3;
     while at < s.len() {
         let to = field_end(s, at);
-        p = render_fragment(&s[at..to], 3, page, p, directly_in_block, left);
+        p = render_inner(&s[at..to], page, p, directly_in_block, left);
         p = end_fragment(p, directly_in_block);
         at = to;
     }
     p
+}
+
+// A fragment of a block, whose whole field is s. An empty one is not entered.
+fn render_inner(s: &[u8], page: &mut [u8], pen: Pen, directly_in_block: bool, left: usize) -> Pen
+    requires { ⌜ indent-of pen + left < 2 ^ 15 ⌝ }
+    ensures { λ r. ⌜ Rendered (fragment-in left «directly_in_block» 3 (now (s .entry))) pen (now (page .entry)) r (now (page .exit)) ⌝ }
+{
+    if s.len() <= 3 {
+        return pen;
+    }
+    render_fragment(s, 3, page, pen, directly_in_block, left)
 }
 
 // A fragment's nodes, from `from` on.

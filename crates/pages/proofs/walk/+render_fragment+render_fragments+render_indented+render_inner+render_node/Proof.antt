@@ -1,4 +1,4 @@
--- `render_node`, `render_indented`, `render_fragments` and `render_fragment` meet their contracts: the blocks that are left fall; each loop's invariant is `Going`.
+-- `render_node`, `render_indented`, `render_fragments`, `render_inner` and `render_fragment` meet their contracts: the blocks that are left fall; each loop's invariant is `Going`.
 use Rattle.rules.proofs.Basics.{refl, arith, length, needs, ℕ, _+_, _*_, _-_}
 use Rattle.parts.proofs.Spans.{end-rises, end-within, end-less}
 use Rattle.pages.specs.States.{break-numbered}
@@ -7,53 +7,59 @@ use Rattle.pages.specs.OpsIn.{fragments-by, node-in, three-in, fragment-
 use Rattle.pages.proofs.Running.{nothing, and-then, kept}
 use Rattle.pages.proofs.Breaks.{break-level, indent-level}
 use Rattle.pages.proofs.Going.{Going, going-starts, going-more, going-ends}
-use Rattle.pages.proofs.WalkLaws.{cut-node, node-three, no-four, node-four, node-leaf, a-three, fragment-ops}
+use Rattle.pages.proofs.WalkLaws.{cut-node, node-three, no-four, node-four, node-leaf, a-three, fragment-ops, no-nodes}
 use borrow.Fn.PlainCycle.{Measures}
 use Rattle.fields.proofs.Cycles.{at, below}
 use Rattle.pages.proofs.walk.render_fragment.Reads as render-fragment
 use Rattle.pages.proofs.walk.render_fragment.Kinds as render-fragment-kinds
-use Rattle.pages.proofs.walk.+render_fragment+render_fragments+render_indented+render_node.Lts-render_fragment as render-fragment-lts
+use Rattle.pages.proofs.walk.+render_fragment+render_fragments+render_indented+render_inner+render_node.Lts-render_fragment as render-fragment-lts
 use Rattle.pages.proofs.walk.render_fragments.Reads as render-fragments
 use Rattle.pages.proofs.walk.render_fragments.Kinds as render-fragments-kinds
-use Rattle.pages.proofs.walk.+render_fragment+render_fragments+render_indented+render_node.Lts-render_fragments as render-fragments-lts
+use Rattle.pages.proofs.walk.+render_fragment+render_fragments+render_indented+render_inner+render_node.Lts-render_fragments as render-fragments-lts
 use Rattle.pages.proofs.walk.render_indented.Reads as render-indented
 use Rattle.pages.proofs.walk.render_indented.Kinds as render-indented-kinds
-use Rattle.pages.proofs.walk.+render_fragment+render_fragments+render_indented+render_node.Lts-render_indented as render-indented-lts
+use Rattle.pages.proofs.walk.+render_fragment+render_fragments+render_indented+render_inner+render_node.Lts-render_indented as render-indented-lts
+use Rattle.pages.proofs.walk.render_inner.Reads as render-inner
+use Rattle.pages.proofs.walk.render_inner.Kinds as render-inner-kinds
+use Rattle.pages.proofs.walk.+render_fragment+render_fragments+render_indented+render_inner+render_node.Lts-render_inner as render-inner-lts
 use Rattle.pages.proofs.walk.render_node.Reads as render-node
 use Rattle.pages.proofs.walk.render_node.Kinds as render-node-kinds
-use Rattle.pages.proofs.walk.+render_fragment+render_fragments+render_indented+render_node.Lts-render_node as render-node-lts
+use Rattle.pages.proofs.walk.+render_fragment+render_fragments+render_indented+render_inner+render_node.Lts-render_node as render-node-lts
 use Rattle.pages.proofs.leaves.render_leaf.Reads as render-leaf-reads
 use Rattle.pages.proofs.state.broken.Reads as broken-reads
 use Rattle.pages.proofs.state.deeper.Reads as deeper-reads
 use Rattle.pages.proofs.state.less_deep.Reads as less-deep-reads
 use Rattle.pages.proofs.walk.end_fragment.Reads as end-fragment-reads
 use Rattle.parts.proofs.field_end.Reads as field-end-reads
-use Rattle.pages.proofs.walk.+render_fragment+render_fragments+render_indented+render_node.{
+use Rattle.pages.proofs.walk.+render_fragment+render_fragments+render_indented+render_inner+render_node.{
   statement,
 }
-use Rattle.pages.proofs.walk.+render_fragment+render_fragments+render_indented+render_node.Tie.{
+use Rattle.pages.proofs.walk.+render_fragment+render_fragments+render_indented+render_inner+render_node.Tie.{
   close,
 }
 
 abbrev μ-render-fragment : Measures 2 render-fragment-kinds.ps ℕ
-μ-render-fragment κs a = 4 * a .1 .1 .1 .1 .1 .0 + 2
+μ-render-fragment κs a = 5 * a .1 .1 .1 .1 .1 .0 + 2
 
 abbrev μ-render-fragments : Measures 2 render-fragments-kinds.ps ℕ
-μ-render-fragments κs a = 4 * a .1 .1 .1 .1 .0 + 3
+μ-render-fragments κs a = 5 * a .1 .1 .1 .1 .0 + 4
 
 abbrev μ-render-indented : Measures 2 render-indented-kinds.ps ℕ
-μ-render-indented κs a = 4 * a .1 .1 .1 .0
+μ-render-indented κs a = 5 * a .1 .1 .1 .0
+
+abbrev μ-render-inner : Measures 2 render-inner-kinds.ps ℕ
+μ-render-inner κs a = 5 * a .1 .1 .1 .1 .0 + 3
 
 abbrev μ-render-node : Measures 2 render-node-kinds.ps ℕ
-μ-render-node κs a = 4 * a .1 .1 .1 .1 .1 .1 .0 + 1
+μ-render-node κs a = 5 * a .1 .1 .1 .1 .1 .1 .0 + 1
 
 render-indented-returns-2 : (t : ℕ) → render-indented-lts.Need-returns-2 (deeper-reads.Asked, deeper-reads.Learnt, broken-reads.Asked, broken-reads.Learnt, below 2 render-fragments-kinds.ps μ-render-fragments render-fragments.Pre t, render-fragments.Post, less-deep-reads.Asked, less-deep-reads.Learnt) (at 2 render-indented-kinds.ps μ-render-indented render-indented.Pre t) render-indented.Post
 unfolding break-numbered
 render-indented-returns-2 t c = a-three _ _ (c .before .before .before .before .before .before .before .if1 .left) (c .before .before .before .before .before .before .deeper .ensures) (c .before .before .before .before .before .broken .ensures) (c .before .before .before .render-fragments .ensures) (c .less-deep .ensures)
 
-pub +render-fragment+render-fragments+render-indented+render-node-spec : {M : Type 1} → statement M
-+render-fragment+render-fragments+render-indented+render-node-spec =
-    close μ-render-fragment μ-render-fragments μ-render-indented μ-render-node
+pub +render-fragment+render-fragments+render-indented+render-inner+render-node-spec : {M : Type 1} → statement M
++render-fragment+render-fragments+render-indented+render-inner+render-node-spec =
+    close μ-render-fragment μ-render-fragments μ-render-indented μ-render-inner μ-render-node
     (λ t. render-fragment-lts.spec
     (field-end-reads.Asked, field-end-reads.Learnt, below 2 render-node-kinds.ps μ-render-node render-node.Pre t, render-node.Post)
     (at 2 render-fragment-kinds.ps μ-render-fragment render-fragment.Pre t) render-fragment.Post
@@ -66,7 +72,7 @@ pub +render-fragment+render-fragments+render-indented+render-node-spec : {M : Ty
     (λ c. kept (c .before .loop .inv .rendered))
     (λ c. unfold fragment-in in going-ends (c .before .loop .inv) (c .loop-test .left)))
     (λ t. render-fragments-lts.spec
-    (field-end-reads.Asked, field-end-reads.Learnt, below 2 render-fragment-kinds.ps μ-render-fragment render-fragment.Pre t, render-fragment.Post, end-fragment-reads.Asked, end-fragment-reads.Learnt)
+    (field-end-reads.Asked, field-end-reads.Learnt, below 2 render-inner-kinds.ps μ-render-inner render-inner.Pre t, render-inner.Post, end-fragment-reads.Asked, end-fragment-reads.Learnt)
     (at 2 render-fragments-kinds.ps μ-render-fragments render-fragments.Pre t) render-fragments.Post
     (λ s page₀ directly-in-block left p₀ at₀ page p at. Going (fragment-ops left directly-in-block) 3 s p₀ page₀ at p page)
     (λ s page₀ directly-in-block left p₀ at₀ page p at. length s - at)
@@ -74,7 +80,7 @@ pub +render-fragment+render-fragments+render-indented+render-node-spec : {M : Ty
     (λ c κs. (omega (arith, c .before .before .before .before .before .before .before .pre .0), omega (arith, c .before .before .before .before .loop .inv .rendered .indent-kept, c .before .before .before .before .before .before .before .pre .1)))
     (λ c κs. search needs)
     (λ c. search end-less)
-    (λ c. unfold fragment-in fragment-ops in going-more (c .before .before .before .before .before .before .before .before .loop .inv) (c .before .before .before .before .before .before .before .loop-test .taken) (c .before .before .before .before .before .before .field-end .ensures) (and-then (c .before .before .before .render-fragment .ensures) (c .end-fragment .ensures _)))
+    (λ c. unfold fragment-in fragment-ops in going-more (c .before .before .before .before .before .before .before .before .loop .inv) (c .before .before .before .before .before .before .before .loop-test .taken) (c .before .before .before .before .before .before .field-end .ensures) (and-then (c .before .before .before .render-inner .ensures) (c .end-fragment .ensures _)))
     (λ c. kept (c .before .loop .inv .rendered))
     (λ c. unfold fragments-by fragment-ops in going-ends (c .before .loop .inv) (c .loop-test .left)))
     (λ t. render-indented-lts.spec
@@ -84,6 +90,12 @@ pub +render-fragment+render-fragments+render-indented+render-node-spec : {M : Ty
     (λ c κs. unfold indent-of in (omega (arith, c .before .before .before .before .before .before .pre .0), omega (arith, break-level (c .before .broken .ensures), indent-level (c .before .before .deeper .ensures), c .before .before .before .before .before .before .pre .1)))
     (λ c κs. unfold indent-of in omega (arith, c .before .before .render-fragments .ensures .indent-kept, break-level (c .before .before .before .before .broken .ensures), indent-level (c .before .before .before .before .before .deeper .ensures)))
     (λ c. kept (render-indented-returns-2 t c)) (render-indented-returns-2 t))
+    (λ t. render-inner-lts.spec
+    (below 2 render-fragment-kinds.ps μ-render-fragment render-fragment.Pre t, render-fragment.Post)
+    (at 2 render-inner-kinds.ps μ-render-inner render-inner.Pre t) render-inner.Post
+    (λ c. no-nodes _ _ _ (c .if1 .taken))
+    (λ c κs. (omega (arith, c .before .before .before .before .pre .0), c .before .before .before .before .pre .1))
+    (λ c. kept (c .before .before .render-fragment .ensures)) (λ c. c .before .before .render-fragment .ensures))
     λ t. render-node-lts.spec
     (below 2 render-indented-kinds.ps μ-render-indented render-indented.Pre t, render-indented.Post, below 2 render-fragments-kinds.ps μ-render-fragments render-fragments.Pre t, render-fragments.Post, render-leaf-reads.Asked, render-leaf-reads.Learnt)
     (at 2 render-node-kinds.ps μ-render-node render-node.Pre t) render-node.Post
