@@ -3,9 +3,10 @@ use Rattle.rules.proofs.Basics.{_≡_, refl, sym, ap, subst, _∙_, List, Bool,
 use Rattle.rules.specs.Bytes.{if_then_else_}
 use Rattle.rules.specs.Layout.{Shape, Inline, Block, _⊕_}
 use Rattle.rules.specs.Ahead.{stretch}
-use Rattle.rigid.specs.RigidIn.{rigid-in}
+use Rattle.rigid.specs.RigidIn.{rigid-in, by-tag}
+use Rattle.rigid.proofs.Tags.{cut-node, whole-node}
 use Rattle.parts.specs.Walk.{span, here, rest, part, Ends}
-use Rattle.parts.proofs.Spans.{end-after, end-within}
+use Rattle.parts.proofs.Spans.{end-after, end-within, end-less, ends-cut}
 use Rattle.parts.proofs.Loops.{Left, left-more, left-ends}
 use Rattle.layout.specs.LaidIn.{Ending, ahead-in, closed, closing}
 use Rattle.layout.specs.Stretches.{Quiet, Path, Stretched}
@@ -62,13 +63,26 @@ ended {s} {from} {first = first} {bound} {stop} {last} l m q h g = record {
 not-either : (a b : Bool) → (a || b) ≡ false → (a ≡ true → ⊥) × (b ≡ true → ⊥)
 not-either a b e = (λ p. false≢true (sym e ∙ rw p), λ p. false≢true (sym e ∙ ap (λ (b : Bool). a || b) p ∙ or-true a))
 
-module _ {s : List ℕ} {from : ℕ} {so-far₀ : Shape} {at : ℕ} {so-far : Shape} {first bound : ℕ} (p : Ahead s from so-far₀ at so-far first bound) where
-  -- no node is left
-  pub ahead-ends : from < length s → length s ≤ at → {last : Shape} → last ≡ Inline 0 0 → Stretched s from so-far₀ so-far first bound (at, last)
-  ahead-ends f h e =
-      let q : end-of s from ≡ (at, Inline 0 0) = left-ends (p .block) h (λ k. closing-nil k at) in
-      ended (sym (left-ends (p .layouts) h (λ k. ahead-nil k so-far))) (p .marks) (q ∙ ap (λ (x : Shape). (at, x)) (sym e)) (omega (arith, f, h)) (p .marks .reach .inside)
+-- three bytes are there
+pub whole-end : {s : List ℕ} {at to : ℕ} → Ends s at to → 3 ≤ length s - at → at + 3 ≤ to
+unfolding span
+whole-end {s} {at} e h = omega (arith, e .end, length-drop at s)
 
+pub whole-within : {s : List ℕ} {at to : ℕ} → Ends s at to → 3 ≤ length s - at → to ≤ length s
+whole-within e h = end-within e (omega arith)
+
+pub whole-less : {s : List ℕ} {at to : ℕ} → Ends s at to → 3 ≤ length s - at → length s - to < length s - at
+whole-less e h = end-less e (omega arith)
+
+-- no node is left
+pub ahead-ends : {s : List ℕ} {from : ℕ} {so-far₀ : Shape} {at : ℕ} {so-far : Shape} {first bound : ℕ} → Ahead s from so-far₀ at so-far first bound
+    → from < length s → length s ≤ at → {last : Shape} → last ≡ Inline 0 0 → Stretched s from so-far₀ so-far first bound (length s, last)
+ahead-ends {s} {from} {at = at} {so-far} p f h e =
+    let z : at ≡ length s = omega (arith, h, p .marks .reach .inside) in
+    let q : end-of s from ≡ (at, Inline 0 0) = left-ends (p .block) h (λ k. closing-nil k at) in
+    ended (sym (left-ends (p .layouts) h (λ k. ahead-nil k so-far))) (rw z at (p .marks)) (q ∙ (λ i. (z i, sym e i))) f (omega arith)
+
+module _ {s : List ℕ} {from : ℕ} {so-far₀ : Shape} {at : ℕ} {so-far : Shape} {first bound : ℕ} (p : Ahead s from so-far₀ at so-far first bound) where
   module _ (h : at < length s) {to : ℕ} (e : Ends s at to) where
     before-it : at ≡ end-of s from .0 → ⊥
     before-it z =
@@ -110,6 +124,10 @@ module _ {s : List ℕ} {from : ℕ} {so-far₀ : Shape} {at : ℕ} {so-far : Sh
           tail = quiet-on s (p .marks .tail) (p .marks .bounded) before-it h e (λ o. n .0 (eq-eqb (getD s at 0) 3 o)) (λ o. n .1 (eq-eqb (getD s at 0) 4 o));
         })
 
+    -- its rigid layout, by its tag
+    pub by-its-tag : 3 ≤ length s - at → {own : Shape} → own ≡ by-tag (getD s at 0) (part s (at + 3) to) → own ≡ rigid-in (part s at to)
+    by-its-tag g o = whole-node s at to (le-of-lt (end-after e h)) (end-within e h) (omega (arith, whole-end e g)) o
+
     module _ {first′ bound′ : ℕ} (m : Marked s from to first′ bound′) {own : Shape} (o : own ≡ rigid-in (part s at to)) where
       field-here : own ≡ rigid-in (here (drop at s))
       unfolding part
@@ -146,3 +164,12 @@ module _ {s : List ℕ} {from : ℕ} {so-far₀ : Shape} {at : ℕ} {so-far : Sh
           block-is : (k : ℕ) → length s ≤ at + k → {x : Ending} → x ≡ closing k at (drop at s) → x ≡ (to, own)
           block-is zero l w = absurd (omega arith)
           block-is (suc k) l w = w ∙ closing-step k at (drop at s) some-left ∙ rw (← block-here, ← e .end) (ap (λ (o : Shape). (to, o)) (sym is))
+
+  -- under three bytes are left
+  pub ahead-cut : from < length s → at < length s → length s - at < 3 → {first′ bound′ : ℕ} → first′ ≡ (if eqb bound from then at else first) → bound′ ≡ length s
+      → so-far ⊕ Inline 0 0 ≡ so-far → {last : Shape} → last ≡ Inline 0 0 → Stretched s from so-far₀ so-far first′ bound′ (length s, last)
+  ahead-cut f h g {first′} {bound′} i b c q =
+      let e : Ends s at (length s) = ends-cut s at h g in
+      let o : Inline 0 0 ≡ rigid-in (part s at (length s)) = cut-node s at (length s) (le-of-lt h) (omega arith) g refl in
+      let P : Ahead s from so-far₀ (length s) so-far first′ bound′ = ahead-on h e (flexible-marked h e i b) o refl (sym c) in
+      ahead-ends P f (omega arith) q

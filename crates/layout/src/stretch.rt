@@ -48,7 +48,8 @@ fn first_of(from: usize, first: usize, bound: usize, at: usize) -> usize
     first
 }
 
-// The rigid layouts of the nodes of s from `from` on, up to the next block: what stands before it on its line belongs to the stretch.
+// The rigid layouts of the nodes of s from `from` on, up to the next block: what stands before it on its line belongs to the stretch. Under three bytes at
+// the end are no node, and are left to the flexible layout.
 pub fn ahead(s: &[u8], from: usize, so_far: ApproxLayout) -> Stretch
     requires { ⌜ from < length (now s) ⌝ }
     ensures { λ r. ⌜ Stretched (now (s .entry)) from (shape «so_far») (shape (r .layout)) (r .first) (r .bound) (r .stop, shape (r .last)) ⌝ }
@@ -57,17 +58,17 @@ pub fn ahead(s: &[u8], from: usize, so_far: ApproxLayout) -> Stretch
     let mut start = from;
     let mut bound = from;
     let mut at = from;
-    while at < s.len() {
+    while 3 <= s.len() - at {
         let to = field_end(s, at);
-        if is_flexible(s[at]) {
+        let tag = s[at];
+        if is_flexible(tag) {
             start = first_of(from, start, bound, at);
             bound = to;
         }
-        let own = approx_rigid_layout(s, at, to);
+        let own = approx_rigid_layout(tag, s, at + 3, to);
         if is_block(own) {
-            let pre = first(own);
             return Stretch {
-                layout: append(layout, inline(pre, 0)),
+                layout: append(layout, inline(first(own), 0)),
                 first: start,
                 bound,
                 stop: to,
@@ -77,11 +78,15 @@ pub fn ahead(s: &[u8], from: usize, so_far: ApproxLayout) -> Stretch
         layout = append(layout, own);
         at = to;
     }
+    if at < s.len() {
+        start = first_of(from, start, bound, at);
+        bound = s.len();
+    }
     Stretch {
         layout,
         first: start,
         bound,
-        stop: at,
+        stop: s.len(),
         last: inline(0, 0),
     }
 }

@@ -9,7 +9,7 @@ ghost use Rattle.fields.specs.declared.Field.the-variants.{Whole};
 ghost use Rattle.parts.specs.Walk.{part};
 ghost use Rattle.looks.specs.Calm.{Says};
 ghost use Rattle.styles.specs.StylesIn.{styles-in};
-ghost use Rattle.rigid.specs.RigidIn.{wide, last-long, text-in, run-in, with-run, anchor-in, by-tag, rigid-in};
+ghost use Rattle.rigid.specs.RigidIn.{wide, last-long, text-in, run-in, with-run, anchor-in, by-tag};
 use fields::Field;
 use fields::field_at;
 use fields::field_in;
@@ -212,8 +212,8 @@ fn if_block_layout(s: &[u8], from: usize, to: usize) -> ApproxLayout
     only_if_block(text_layout(&s[from..to], BYTE))
 }
 
-// A field's value from..to, by its tag.
-fn value_layout(tag: u8, s: &[u8], from: usize, to: usize) -> ApproxLayout
+// A node with this tag, whose value is from..to.
+pub fn approx_rigid_layout(tag: u8, s: &[u8], from: usize, to: usize) -> ApproxLayout
     requires { ⌜ (from ≤ to) × (to ≤ length (now s)) ⌝ }
     ensures { λ r. ⌜ shape r ≡ by-tag tag (part (now (s .entry)) from to) ⌝ }
 {
@@ -226,15 +226,4 @@ fn value_layout(tag: u8, s: &[u8], from: usize, to: usize) -> ApproxLayout
         7 => if_block_layout(s, from, to),
         _ => inline(0, 0),
     }
-}
-
-// A node, whose field is at..to.
-pub fn approx_rigid_layout(s: &[u8], at: usize, to: usize) -> ApproxLayout
-    requires { ⌜ (at ≤ to) × (to ≤ length (now s)) ⌝ }
-    ensures { λ r. ⌜ shape r ≡ rigid-in (part (now (s .entry)) at to) ⌝ }
-{
-    if to - at < 3 {
-        return inline(0, 0);
-    }
-    value_layout(s[at], s, at + 3, to)
 }
