@@ -1,5 +1,5 @@
 -- The loop over a stretch's nodes ahead of their layout: its start, a turn and its end.
-use Rattle.rules.proofs.Basics.{_≡_, refl, sym, ap, subst, _∙_, List, Bool, true, false, _||_, or-true, false≢true, ℕ, zero, suc, _+_, _-_, _<_, _≤_, le-of-lt, arith, eqb, length, take, drop, getD, length-drop, eq-eqb, eqb-true}
+use Rattle.rules.proofs.Basics.{_≡_, refl, sym, ap, subst, _∙_, List, Bool, true, false, _||_, or-true, false≢true, ℕ, zero, suc, _+_, _-_, _<_, _≤_, le-of-lt, arith, eqb, length, drop, getD, length-drop, eq-eqb, eqb-true}
 use Rattle.rules.specs.Bytes.{if_then_else_}
 use Rattle.rules.specs.Layout.{Shape, Inline, Block, _⊕_}
 use Rattle.rules.specs.Ahead.{stretch}
@@ -11,7 +11,7 @@ use Rattle.parts.proofs.Loops.{Left, left-more, left-ends}
 use Rattle.layout.specs.LaidIn.{Ending, ahead-in, closed, closing}
 use Rattle.layout.specs.Stretches.{Quiet, Path, Stretched}
 use Rattle.layout.proofs.StretchLaws.{ahead-step, ahead-nil, closing-step, closing-nil, here-at, closes-after}
-use Rattle.layout.proofs.LoopLaws.{quiet-none, quiet-on, path-none, path-on, path-rises}
+use Rattle.layout.proofs.LoopLaws.{quiet-none, quiet-on, path-none, path-on}
 
 -- the end of the stretch that begins at `from`
 abbrev end-of : List ℕ → (from : ℕ) → Ending

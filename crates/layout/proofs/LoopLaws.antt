@@ -1,18 +1,18 @@
 -- The loops over a block's fragments, over a stretch's nodes and over a fragment's stretches: their start, a turn and their end.
 use Rattle.rules.proofs.Basics.{_≡_, refl, sym, subst, ap, _∙_, List, _++_, append-assoc, Bool, true, false, ℕ, zero, suc, _+_, _-_, _<_, _≤_, le-of-lt, arith, eqb, length, take, drop, length-drop, length-take, length-append, take-append-drop, getD, drop-of-length-le, drop-at, drop-drop, eq-eqb, ne-eqb, eqb-true, eqb-false}
 use lib.Seq.{getD-drop, getD-take}
-use Rattle.rules.specs.Bytes.{if_then_else_, cap}
-use Rattle.rules.specs.Layout.{Shape, Inline, Block, _⊕_}
+use Rattle.rules.specs.Bytes.{cap}
+use Rattle.rules.specs.Layout.{Shape, Inline, _⊕_}
 use Rattle.rules.proofs.Stretches.{cap-min}
 use Rattle.rigid.specs.RigidIn.{rigid-in}
 use Rattle.parts.specs.Walk.{span, here, rest, Is, Ends}
-use Rattle.parts.proofs.Spans.{end-after, end-within, span-le}
+use Rattle.parts.proofs.Spans.{end-after, end-within}
 use Rattle.parts.proofs.Loops.{Part, starts, more, ends}
 use Rattle.layout.specs.LaidIn.{Laid, Ending, ahead-in, past-in, with-fragment, with-node, nodes-in, flex-in, behind-in}
 use Rattle.layout.specs.Stretches.{Closes, laid-at, Going, Quiet, after, Path, Stretched, Onwards}
 use Rattle.layout.proofs.Counted.{cap-more}
 use Rattle.layout.proofs.NodeLaws.{other-tag}
-use Rattle.layout.proofs.StretchLaws.{ahead-nil, here-at, closes-after, before-end, at-end}
+use Rattle.layout.proofs.StretchLaws.{ahead-nil, here-at, before-end, at-end}
 
 -- ---- a block's fragments
 
@@ -132,7 +132,7 @@ path-on {s} {a} {b} {to} p h e = record {
   ends = after-snoc s (p .steps) a ∙ ap (λ (b : ℕ). b + span (drop b s)) (p .ends) ∙ sym (e .end);
 }
 
-pub path-rises : {s : List ℕ} {a b : ℕ} → Path s a b → a ≤ b
+path-rises : {s : List ℕ} {a b : ℕ} → Path s a b → a ≤ b
 path-rises {s} {a} p = omega (arith, after-from s (p .steps) a, p .ends)
 
 -- a field less

@@ -1,12 +1,10 @@
 -- A stretch of rigid layouts: one field of it, its end seen from a field, and the loop over it.
-use Rattle.rules.proofs.Basics.{_≡_, refl, sym, ap, subst, _∙_, List, [], _∷_, Bool, true, false, _||_, ℕ, zero, suc, _+_, _-_, _<_, _≤_, arith, eqb, length, take, drop, getD, length-drop, drop-drop, eq-eqb, ne-eqb, eqb-true}
-use Rattle.rules.specs.Bytes.{if_then_else_}
+use Rattle.rules.proofs.Basics.{_≡_, refl, sym, ap, _∙_, List, [], _∷_, ℕ, zero, suc, _+_, _-_, _<_, _≤_, arith, length, take, drop, length-drop}
 use Rattle.rules.specs.Layout.{Shape, Inline, Block, _⊕_}
 use Rattle.rules.specs.Ahead.{stretch}
 use Rattle.rigid.specs.RigidIn.{rigid-in}
 use Rattle.parts.specs.Walk.{span, here, rest, Ends}
-use Rattle.parts.proofs.Spans.{span-positive, end-after, end-within}
-use Rattle.parts.proofs.Loops.{Left, left-more, left-ends}
+use Rattle.parts.proofs.Spans.{span-positive}
 use Rattle.layout.specs.LaidIn.{Ending, ahead-in, past-in, closed, closing, behind-in}
 use Rattle.layout.specs.Stretches.{Closes}
 

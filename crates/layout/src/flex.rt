@@ -5,7 +5,6 @@ use crate::choice::decide;
 use crate::choice::laid_out;
 use crate::choice::larger;
 use crate::choice::room;
-use crate::stretch::Stretch;
 use crate::stretch::ahead;
 use crate::stretch::behind;
 use parts::field_end;

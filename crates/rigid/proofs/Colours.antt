@@ -1,5 +1,5 @@
 -- A style that is a colour alone leaves a byte's width as it is.
-use Rattle.rules.proofs.Basics.{_≡_, sym, ap, _∙_, List, ℕ, _+_, _-_, _*_, _≤_, _<_, arith, length, take, drop, getD, length-take, length-drop, eqb, eqb-true}
+use Rattle.rules.proofs.Basics.{_≡_, sym, ap, _∙_, List, ℕ, _+_, _-_, _≤_, _<_, arith, length, take, drop, getD, length-take, length-drop, eqb, eqb-true}
 use Rattle.looks.specs.Calm.{Says}
 use lib.Seq.{getD-drop, getD-take}
 use Rattle.rules.specs.Walk.{right-length}

@@ -2,7 +2,6 @@
 use Rattle.rules.proofs.Basics.{_≡_, refl, sym, ap, _∙_, List, [], _∷_, Bool, true, false, ℕ, zero, suc, _+_, _-_, _≤_, _<_, arith, length, take, drop, getD, drop-of-length-le, drop-cons, eq-eqb, ne-eqb}
 use Rattle.rules.specs.Bytes.{if_then_else_, newline}
 use Rattle.rules.specs.Layout.{Shape, Inline, Block, last, parts, only-if-block}
-use lib.Seq.{slice}
 use Rattle.looks.specs.Calm.{Calm, Says}
 use Rattle.looks.proofs.CalmBytes.{calm-lacks}
 use Rattle.parts.specs.Walk.{part}

@@ -1,5 +1,5 @@
 -- Parts of a file between two places: a part of a part, a field of one, and the fields of a 1.
-use Rattle.rules.proofs.Basics.{_≡_, refl, sym, ap, _∙_, List, [], _∷_, ℕ, zero, suc, _+_, _-_, _*_, _≤_, _<_, zero-add, arith, length, take, drop, getD, length-drop, length-take-le, drop-drop, eq-eqb, ne-eqb}
+use Rattle.rules.proofs.Basics.{_≡_, sym, ap, _∙_, List, [], _∷_, ℕ, zero, suc, _+_, _-_, _*_, _≤_, _<_, zero-add, arith, length, take, drop, getD, length-drop, length-take-le, drop-drop, eq-eqb, ne-eqb}
 use lib.Seq.{take-take, getD-drop, getD-take}
 use native.Mathlib.Nat.{suc-add}
 use Rattle.rules.specs.Layout.{Shape, byte-width, effective}

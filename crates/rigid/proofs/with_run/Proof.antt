@@ -1,5 +1,5 @@
 -- `rigid::with_run` meets its contract: by whether a 1 stands there.
-use Rattle.rules.proofs.Basics.{needs, arith}
+use Rattle.rules.proofs.Basics.{needs}
 use Rattle.rigid.proofs.Runs.{cut-field, other-field, run-appended}
 use Rattle.rigid.proofs.with_run.Statement.{statement}
 use Rattle.rigid.proofs.with_run.Tie as tie

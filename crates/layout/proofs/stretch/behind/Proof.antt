@@ -1,7 +1,6 @@
 -- `layout::stretch::behind` meets its contract: behind a block, or behind the last node.
-use Rattle.rules.proofs.Basics.{refl, needs, ap, _∙_}
+use Rattle.rules.proofs.Basics.{refl, needs}
 use Rattle.shapes.proofs.Numbers.{line, lines}
-use Rattle.rules.specs.Layout.{_⊕_}
 use Rattle.layout.specs.LaidIn.{behind-in}
 use Rattle.layout.proofs.stretch.behind.Statement.{statement}
 use Rattle.layout.proofs.stretch.behind.Tie as tie
