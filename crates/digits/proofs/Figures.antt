@@ -1,8 +1,11 @@
 -- The texts of numbers, put together from the back.
-use Rattle.rules.proofs.Basics.{_≡_, sym, ap, _∙_, Bool, List, [], _∷_, ℕ, _+_, _/_, _%_, _^_, _≤_, _<_, zero-le, pow-suc, div-div-eq-div-mul, add-one, arith, ℤ, pos, negsuc, natAbs, le-ltb, length, drop-of-length-le, append-nil}
+use Rattle.rules.proofs.Basics.{_≡_, sym, ap, _∙_, Bool, List, [], _∷_, ℕ, _+_, _/_, _%_, _^_, _≤_, _<_, zero-le, pow-suc, div-div-eq-div-mul, add-one, arith, ℤ, pos, negsuc, natAbs, le-ltb, length, getD, drop-of-length-le, append-nil}
 use lib.Signed.{ltZ}
-use Rattle.rules.specs.Digits.{digits, fraction, sign, signed-digits, decimal-text}
+use Rattle.rules.specs.Html.{separated}
+use Rattle.rules.proofs.Lengths.{three}
+use Rattle.rules.specs.Digits.{digits, hex, fraction, sign, signed-digits, decimal-text}
 use Rattle.rules.specs.Digits as rules
+use Rattle.writing.specs.Written.{Written}
 use Rattle.rules.proofs.Printed.{digits-small, digits-large}
 use Rattle.digits.specs.declared.Decimal as Code
 use Rattle.digits.specs.Said.{decimal-of}
@@ -26,6 +29,14 @@ three-digits b h l =
     let e : b / 10 / 10 ≡ b / 100 = omega arith in
     let k : 10 ≤ b = omega arith in
     rw (digits-large b k, ← (two-digits (b / 10) (omega arith) (omega arith)), e)
+
+-- ---- a colour
+
+pub six-digits : (rgb : List ℕ) → length rgb ≡ 3 → {a b c : List ℕ} → a ≡ hex (getD rgb 0 0) → b ≡ hex (getD rgb 1 0) → c ≡ hex (getD rgb 2 0)
+    → {page page′ : List ℕ} {at r : ℕ} → Written page at (getD a 0 0 ∷ getD a 1 0 ∷ getD b 0 0 ∷ getD b 1 0 ∷ getD c 0 0 ∷ getD c 1 0 ∷ []) page′ r
+    → Written page at (separated hex [] rgb) page′ r
+unfolding hex separated
+six-digits rgb l e f g w = let t = ap (separated hex []) (three rgb l) in rw (e, f, g, t) at w
 
 -- ---- texts from the back
 

@@ -5,6 +5,8 @@ ghost use mathlib.Core.Path.{_≡_};
 ghost use Prim.Native.Nat.{_-_, _/_, _%_, _^_, _≤_, _<_};
 ghost use lib.IntN.{natAbs};
 ghost use lib.ListN.{length};
+ghost use mathlib.Core.List.{[]};
+ghost use Rattle.rules.specs.Html.{separated};
 ghost use Rattle.rules.specs.Digits.{digit, digits, hex, hex-digit, signed-digits, last-digits, sign, decimal-text};
 ghost use Rattle.writing.specs.Written.{Written};
 ghost use Rattle.digits.specs.Said.{decimal-of};
@@ -69,11 +71,23 @@ fn hex_digit(d: u8) -> u8
 }
 
 // The two hexadecimal digits of a byte.
-pub fn put_hex(page: &mut [u8], at: usize, b: u8) -> usize
-    ensures { λ r. ⌜ Written (now (page .entry)) at (hex b) (now (page .exit)) r ⌝ }
+fn hex_pair(b: u8) -> [u8; 2]
+    ensures { λ r. ⌜ r ≡ hex b ⌝ }
 {
-    let next = put(page, at, hex_digit(b / 16));
-    put(page, next, hex_digit(b % 16))
+    let high = hex_digit(b / 16);
+    let low = hex_digit(b % 16);
+    [high, low]
+}
+
+// The hexadecimal digits of a colour's three bytes, written as one slice.
+pub fn put_hex(page: &mut [u8], at: usize, rgb: [u8; 3]) -> usize
+    ensures { λ r. ⌜ Written (now (page .entry)) at (separated hex [] rgb) (now (page .exit)) r ⌝ }
+{
+    let a = hex_pair(rgb[0]);
+    let b = hex_pair(rgb[1]);
+    let c = hex_pair(rgb[2]);
+    let six = [a[0], a[1], b[0], b[1], c[0], c[1]];
+    put_bytes(page, at, &six)
 }
 
 // The sign of a negative number before a place of `figures`; where the text begins then.

@@ -1,8 +1,7 @@
 -- The texts of colours.
-use Rattle.rules.proofs.Basics.{_≡_, ap, _∙_, List, [], _∷_, append-assoc, append-nil, true, false, none, some, ℕ, length, getD}
+use Rattle.rules.proofs.Basics.{_≡_, ap, _∙_, List, [], _∷_, append-nil, true, false, none, some, ℕ, length, getD}
 use lib.Ieee.{binary32, toBits}
-use Rattle.rules.specs.Bytes.{ascii, join}
-use Rattle.rules.specs.Digits.{hex}
+use Rattle.rules.specs.Bytes.{join}
 use Rattle.rules.specs.Html.{separated, colour-css}
 use Rattle.rules.specs.Walk.{right-opacity}
 use Rattle.styles.specs.declared.Styles.{Styles}
@@ -12,10 +11,6 @@ use Rattle.rules.proofs.Lengths.{three}
 -- ---- three bytes
 
 module _ (rgb : List ℕ) (l : length rgb ≡ 3) where
-  pub hex-text : join (ascii "color:#" ∷ hex (getD rgb 0 0) ∷ hex (getD rgb 1 0) ∷ hex (getD rgb 2 0) ∷ ascii ";" ∷ []) ≡ colour-css (some rgb) none
-  unfolding join separated colour-css
-  hex-text = rw (← three rgb l) (simp append-assoc)
-
   pub separated-text : (f : ℕ → List ℕ) (between : List ℕ)
       → join (f (getD rgb 0 0) ∷ between ∷ f (getD rgb 1 0) ∷ between ∷ f (getD rgb 2 0) ∷ []) ≡ separated f between rgb
   unfolding join separated

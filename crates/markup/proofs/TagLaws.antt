@@ -1,10 +1,12 @@
 -- The name of a style's tag, and its attributes.
-use Rattle.rules.proofs.Basics.{_≡_, refl, sym, subst, List, [], _∷_, Bool, true, false, ℕ, T}
+use Rattle.rules.proofs.Basics.{_≡_, refl, sym, subst, List, [], _∷_, append-assoc, append-nil, Bool, true, false, ℕ, T}
 use Rattle.rules.specs.Bytes.{if_then_else_, ascii, join}
-use Rattle.rules.specs.Html.{tag-name, attribute}
+use Rattle.rules.specs.Html.{colour-css, weight-css, size-css, script, css, tag-name, attribute, open-tag}
+use Rattle.rules.specs.Layout.{or-script, effective}
 use Rattle.styles.specs.declared.Styles.{Styles}
-use Rattle.styles.specs.Said.{said-styles}
+use Rattle.styles.specs.Said.{flagged, said-styles}
 use Rattle.markup.specs.Any.{any}
+use Rattle.markup.specs.Coloured.{coloured-tag}
 
 -- ---- the name
 
@@ -41,3 +43,10 @@ class-text dim e = rw e
 pub no-class : (dim : Bool) → dim ≡ false → join [] ≡ attribute (ascii "class") (if dim then ascii "unchanged" else [])
 unfolding join attribute
 no-class dim e = rw e
+
+-- ---- a colour alone
+
+pub coloured : (st : Styles) → st .«has_opacity» ≡ false → st .«has_thickness» ≡ false → st .«has_size» ≡ false → st .subscript ≡ false → st .superscript ≡ false
+    → st .dim ≡ false → st .«has_colour» ≡ true → open-tag (said-styles st) ≡ coloured-tag (st .colour)
+unfolding join ascii tag-name attribute colour-css weight-css size-css script css open-tag or-script effective said-styles flagged coloured-tag
+coloured st o t z b p d c = rw (o, t, z, b, p, d, c) (simp (append-assoc, append-nil))

@@ -1,3 +1,4 @@
 -- What the contracts say besides the rules' own words.
 pub mod Any
+pub mod Coloured
 pub mod Runs
