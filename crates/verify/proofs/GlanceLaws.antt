@@ -51,7 +51,7 @@ module _ {m before t : ℕ} {ts : List ℕ} (U : Upto m before ts) (l : m < t) w
   absent : (k : ℕ) → m < k → (k ≡ t → ⊥) → (has k ts || eqb k t) ≡ false
   absent k g n = rw (U .later k g, ne-eqb k t n)
 
-  pub upto-more : Fits t ts → Upto t t (ts ++ (t ∷ []))
+  upto-more : Fits t ts → Upto t t (ts ++ (t ∷ []))
   upto-more F =
       record {
         rising = omega arith;
@@ -64,10 +64,10 @@ module _ {m before t : ℕ} {ts : List ℕ} (U : Upto m before ts) (l : m < t) w
             (λ e. let q = eqb-true 37 t e in rw (F .alone (sym q), ne-eqb 36 t (λ z. omega (arith, q, z)))));
       }
 
-  pub rises : first-style ≤ t → t ≤ last-style → allowed in-styles before t ≡ true
+  rises : first-style ≤ t → t ≤ last-style → allowed in-styles before t ≡ true
   rises f g = sym (styles-rise t before f g) ∙ lt-ltb before t (omega (arith, U .rising))
 
-pub upto-later : {m n before : ℕ} {ts : List ℕ} → m ≤ n → Upto m before ts → Upto n before ts
+upto-later : {m n before : ℕ} {ts : List ℕ} → m ≤ n → Upto m before ts → Upto n before ts
 upto-later h U =
     record { rising = omega (arith, U .rising); later = λ k g. U .later k (omega (arith, g)); coloured = U .coloured; one-script = U .one-script }
 
@@ -82,7 +82,7 @@ upto-sound p U = simp (U .coloured, U .one-script)
 -- ---- fields
 
 module _ {s : List ℕ} {place at end t to : ℕ} (P : Between s place at end) (S : Stands s t at to) (h : to ≤ end) where
-  pub standing : At s end at t (at + 3) to
+  standing : At s end at t (at + 3) to
   standing = field-there P (whole-in s at end (P .ends) (length-at s at) refl (omega (arith, S .ends))) (rw (S .tag, S .ends))
 
 pub none-passed : {s : List ℕ} {stop t n at : ℕ} → at ≤ stop → Passed s stop t n at at
@@ -99,7 +99,7 @@ right-there e =
 -- a right field, then what is left behind it
 module _ {s : List ℕ} {place at stop t to m before : ℕ} {ts : List ℕ} (P : Between s place at stop) (U : Upto m before ts) (l : m < t) (F : Fits t ts) (f : first-style ≤ t) (g : t ≤ last-style)
     (R : PassedRight s stop t at to) (n : to ≡ at → ⊥) (d : ℕ) where
-  pub one-right : (Upto t t (ts ++ (t ∷ [])) → Between s place to stop → RestSaid in-styles (ts ++ (t ∷ [])) d t place to (slice to stop s) (accepted tt)) → RestSaid in-styles ts d before place at (slice at stop s) (accepted tt)
+  one-right : (Upto t t (ts ++ (t ∷ [])) → Between s place to stop → RestSaid in-styles (ts ++ (t ∷ [])) d t place to (slice to stop s) (accepted tt)) → RestSaid in-styles ts d before place at (slice at stop s) (accepted tt)
   one-right k =
       let A = standing P (R .there n) (R .inside) in
       whole-on P in-styles ts d before A (rises U l f g) (style-value d at _ before (rises U l f g) (R .right n at)) (k (upto-more U l F) (rest-part P A))
@@ -126,7 +126,7 @@ pub record Plain (t n : ℕ) : Type 0 where
   pub no-size : t ≡ 35 → ⊥
   pub length-right : right-length t n ≡ true
 
-pub plain-colour : Plain 32 3
+plain-colour : Plain 32 3
 unfolding right-length
 plain-colour = record { low = omega arith; high = omega arith; no-opacity = λ e. omega (arith, e); no-size = λ e. omega (arith, e); length-right = refl }
 
@@ -202,7 +202,7 @@ pub fill-said : (s : List ℕ) (at end : ℕ) {a b : ℕ} → getD s at 0 ≡ 17
 fill-said s at end {a} {b} t p q h = record { says = λ e. record { tag = t; ends = omega (arith, eqb-true (a * 256 + b) (end - at - 3) e, p, q) } }
 
 module _ {s : List ℕ} {place at end : ℕ} (P : Between s place at end) (S : Stands s 17 at end) (u : utf8 (slice (at + 3) end s) ≡ true) (d : ℕ) where
-  pub filled : (before : ℕ) (ts : List ℕ) → TextLeft before ts s at end → RestSaid in-text ts d before place at (slice at end s) (accepted tt)
+  filled : (before : ℕ) (ts : List ℕ) → TextLeft before ts s at end → RestSaid in-text ts d before place at (slice at end s) (accepted tt)
   filled before ts L = last-text P (standing P S (omega arith)) d before ts L refl (utf8-text _ at u refl) refl (omega arith) refl
 
   pub filled-alone : RestSaid in-text [] d 0 place at (slice at end s) (accepted tt)
