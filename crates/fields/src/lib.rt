@@ -4,6 +4,8 @@ ghost use Prim.Native.Nat.{_<_, _≤_};
 ghost use lib.ListN.{length, take};
 ghost use Rattle.fields.specs.FieldAt.{field-at};
 
+pub mod parts;
+
 pub enum Field {
     // the whole field is there: its value stands from `from` to `to`
     Whole { tag: u8, from: usize, to: usize },

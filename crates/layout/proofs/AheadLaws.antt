@@ -5,9 +5,9 @@ use Rattle.rules.specs.Layout.{Shape, Inline, Block, _⊕_}
 use Rattle.rules.specs.Ahead.{stretch}
 use Rattle.rigid.specs.RigidIn.{rigid-in, by-tag}
 use Rattle.rigid.proofs.Tags.{cut-node, whole-node}
-use Rattle.parts.specs.Walk.{span, here, rest, part, Ends}
-use Rattle.parts.proofs.Spans.{end-after, end-within, end-less, ends-cut}
-use Rattle.parts.proofs.Loops.{Left, left-more, left-ends}
+use Rattle.fields.specs.Walk.{span, here, rest, part, Ends}
+use Rattle.fields.proofs.Spans.{end-after, end-within, end-less, ends-cut}
+use Rattle.fields.proofs.Loops.{Left, left-more, left-ends}
 use Rattle.layout.specs.LaidIn.{Ending, ahead-in, closed, closing}
 use Rattle.layout.specs.Stretches.{Quiet, Path, Stretched}
 use Rattle.layout.proofs.StretchLaws.{ahead-step, ahead-nil, closing-step, closing-nil, here-at, closes-after}

@@ -2,7 +2,7 @@
 use Rattle.rules.proofs.Basics.{_≡_, refl, ap, _∙_, List, false, ℕ, _+_, _-_, _<_, _≤_, set, le-leb, lt-leb}
 use Rattle.rules.specs.Bytes.{cap}
 use Rattle.rules.specs.Layout.{Shape, Inline, Block, _⊕_}
-use Rattle.parts.specs.Walk.{Is}
+use Rattle.fields.specs.Walk.{Is}
 use Rattle.layout.specs.LaidIn.{Laid, kept, decided}
 
 pub kept-indented : (so-far : Shape) (n : ℕ) (s : List ℕ) {x l : Shape} {c : ℕ} → x ≡ Block 0 0 → l ≡ so-far ⊕ x → c ≡ cap (n + 1) → Is (kept false 0 so-far n s) (l, c) (set s 0 3)

@@ -5,9 +5,9 @@ use Rattle.rules.specs.Bytes.{cap}
 use Rattle.rules.specs.Layout.{Shape, Inline, _⊕_}
 use Rattle.rules.proofs.Stretches.{cap-min}
 use Rattle.rigid.specs.RigidIn.{rigid-in}
-use Rattle.parts.specs.Walk.{span, here, rest, Is, Ends}
-use Rattle.parts.proofs.Spans.{end-after, end-within}
-use Rattle.parts.proofs.Loops.{Part, starts, more, ends}
+use Rattle.fields.specs.Walk.{span, here, rest, Is, Ends}
+use Rattle.fields.proofs.Spans.{end-after, end-within}
+use Rattle.fields.proofs.Loops.{Part, starts, more, ends}
 use Rattle.layout.specs.LaidIn.{Laid, Ending, ahead-in, past-in, with-fragment, with-node, nodes-in, flex-in, behind-in}
 use Rattle.layout.specs.Stretches.{Closes, laid-at, Going, Quiet, after, Path, Stretched, Onwards}
 use Rattle.layout.proofs.Counted.{cap-more}

@@ -1,7 +1,7 @@
 -- A node's flexible layout: its cases.
 use Rattle.rules.proofs.Basics.{_≡_, refl, ap, _∙_, List, [], _∷_, ℕ, zero, suc, _-_, _<_, max, sub-one, arith, length, getD, eq-eqb, ne-eqb}
 use Rattle.rules.specs.Layout.{Shape, Block, _⊕_, room}
-use Rattle.parts.specs.Walk.{Is}
+use Rattle.fields.specs.Walk.{Is}
 use Rattle.layout.specs.LaidIn.{Laid, decided, fragments-in, node-in, nodes-in, flex-in, fragment-in}
 
 -- what says the same is the same

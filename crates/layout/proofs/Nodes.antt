@@ -4,9 +4,9 @@ use Rattle.rules.specs.Bytes.{cap}
 use Rattle.rules.specs.Layout.{Shape, Inline, Block, _⊕_, room, kept-inline, chosen}
 use Rattle.rules.specs.Ahead.{stretch}
 use Rattle.rules.specs.Encode.{field, block-tag}
-use Rattle.parts.specs.Walk.{here, rest, over}
+use Rattle.fields.specs.Walk.{here, rest, over}
 use Rattle.rules.proofs.SoundFields.{length-field}
-use Rattle.parts.proofs.OfFields.{here-field, rest-field}
+use Rattle.fields.proofs.OfFields.{here-field, rest-field}
 use Rattle.rigid.specs.RigidIn.{rigid-in, by-tag}
 use Rattle.layout.specs.LaidIn.{ahead-in, with-node, with-fragment, fragments-in, kept, decided, node-in, nodes-in, flex-in, fragment-in}
 use Rattle.layout.proofs.Counted.{cap-more, one-unless}

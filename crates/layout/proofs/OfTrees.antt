@@ -11,7 +11,7 @@ use Rattle.rules.specs.Answers.{changed}
 use Rattle.rules.proofs.Typed.{inner-good}
 use Rattle.rules.proofs.Stretches.{cap-min, layout-ahead}
 use Rattle.rules.proofs.Turned.{leaf-bytes, encode-leaf}
-use Rattle.parts.proofs.Leaves.{leaf-at, room-left}
+use Rattle.fields.proofs.Leaves.{leaf-at, room-left}
 use Rattle.rigid.specs.RigidIn.{rigid-in}
 use Rattle.layout.specs.LaidIn.{Laid, ahead-in, past-in, with-node, with-fragment, nodes-in, flex-in, fragment-in}
 use Rattle.layout.proofs.Counted.{changed-le}

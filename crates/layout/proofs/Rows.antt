@@ -5,10 +5,10 @@ use Rattle.rules.specs.Layout.{Shape, _⊕_}
 use Rattle.rules.specs.Encode.{field}
 use Rattle.rules.specs.Answers.{changed}
 use Rattle.rules.proofs.Changed.{changed-append, changed-same}
-use Rattle.parts.specs.Walk.{walk, over}
-use Rattle.parts.proofs.Loops.{walk-nil}
+use Rattle.fields.specs.Walk.{walk, over}
+use Rattle.fields.proofs.Loops.{walk-nil}
 use Rattle.rules.proofs.SoundFields.{length-field}
-use Rattle.parts.proofs.OfFields.{walk-field}
+use Rattle.fields.proofs.OfFields.{walk-field}
 use Rattle.rigid.specs.RigidIn.{rigid-in}
 use Rattle.layout.specs.LaidIn.{Laid, past-in, with-node, with-fragment}
 use Rattle.rules.proofs.Stretches.{cap-min}

@@ -3,8 +3,8 @@ use Rattle.rules.proofs.Basics.{_≡_, refl, sym, ap, _∙_, List, [], _∷_, �
 use Rattle.rules.specs.Layout.{Shape, Inline, Block, _⊕_}
 use Rattle.rules.specs.Ahead.{stretch}
 use Rattle.rigid.specs.RigidIn.{rigid-in}
-use Rattle.parts.specs.Walk.{span, here, rest, Ends}
-use Rattle.parts.proofs.Spans.{span-positive}
+use Rattle.fields.specs.Walk.{span, here, rest, Ends}
+use Rattle.fields.proofs.Spans.{span-positive}
 use Rattle.layout.specs.LaidIn.{Ending, ahead-in, past-in, closed, closing, behind-in}
 use Rattle.layout.specs.Stretches.{Closes}
 

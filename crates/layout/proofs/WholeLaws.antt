@@ -13,7 +13,7 @@ use Rattle.rules.specs.Good.{Bytes}
 use Rattle.rules.specs.Answers.{tree, check-answer, changed, left-laid, layout-outcome, laid-out}
 use Rattle.verify.proofs.Verdicts.{RefusedSo, refused-so, AcceptedAs, accepted-as}
 use Rattle.rigid.proofs.OfLeaves.{rigid-leaf}
-use Rattle.parts.specs.Walk.{Is}
+use Rattle.fields.specs.Walk.{Is}
 use Rattle.layout.specs.LaidIn.{Laid, fragment-in}
 use Rattle.layout.proofs.OfTrees.{laid-tree}
 

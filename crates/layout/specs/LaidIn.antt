@@ -9,7 +9,7 @@ use Rattle.rules.specs.Bytes.{if_then_else_, cap}
 use Rattle.rules.specs.Layout.{Shape, Inline, Block, _⊕_, room}
 use Rattle.rules.specs.Ahead.{stretch}
 use Rattle.rigid.specs.RigidIn.{rigid-in}
-use Rattle.parts.specs.Walk.{span, here, rest, over}
+use Rattle.fields.specs.Walk.{span, here, rest, over}
 
 -- a shape, and how many tags were changed; the count stops where widths do, past what a file can have
 abbrev pub Laid : Type 0

@@ -6,8 +6,8 @@ use lib.Dec.{eqb}
 use lib.ListN.{length, drop}
 use Rattle.rules.specs.Bytes.{if_then_else_, cap}
 use Rattle.rules.specs.Layout.{Shape, Inline}
-use Rattle.parts.specs.Walk.{span}
-use Rattle.parts.proofs.Loops.{Part}
+use Rattle.fields.specs.Walk.{span}
+use Rattle.fields.proofs.Loops.{Part}
 use Rattle.layout.specs.LaidIn.{Laid, Ending, ahead-in, closing, behind-in, with-node, flex-in}
 
 -- e is the end of the stretch of the fields t, which stand from `at` on

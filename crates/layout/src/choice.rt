@@ -14,7 +14,7 @@ ghost use Prim.Native.Nat.{_<_, max};
 ghost use lib.ListN.{length};
 ghost use Rattle.rules.specs.Layout as rules;
 ghost use Rattle.shapes.specs.Shapes.{shape};
-ghost use Rattle.parts.specs.Walk.{Is};
+ghost use Rattle.fields.specs.Walk.{Is};
 ghost use Rattle.layout.specs.Said.{said};
 ghost use Rattle.layout.specs.LaidIn.{kept, decided};
 

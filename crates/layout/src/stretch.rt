@@ -1,5 +1,5 @@
 // A fragment's rigid layouts, appended ahead of its flexible ones, a stretch at a time: up to the next rigid block.
-use parts::field_end;
+use fields::parts::field_end;
 use rigid::approx_rigid_layout;
 use shapes::ApproxLayout;
 use shapes::append;

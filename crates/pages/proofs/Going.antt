@@ -1,7 +1,7 @@
 -- A loop over fields that renders each.
 use Rattle.rules.proofs.Basics.{_≡_, refl, sym, ap, _∙_, List, [], _++_, append-nil, append-assoc, ℕ, _-_, _<_, _≤_, arith, length, take, drop, length-drop}
-use Rattle.parts.specs.Walk.{span, here, rest, Ends}
-use Rattle.parts.proofs.Loops.{Left, left-more, left-ends}
+use Rattle.fields.specs.Walk.{span, here, rest, Ends}
+use Rattle.fields.proofs.Loops.{Left, left-more, left-ends}
 use Rattle.pages.specs.OpsIn.{Ops, each, each-from}
 use Rattle.pages.specs.Ran.{Rendered}
 use Rattle.pages.specs.declared.pen.Pen.{Pen}

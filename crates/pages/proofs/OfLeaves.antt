@@ -12,7 +12,7 @@ use Rattle.fields.proofs.Encoded.{field-here}
 use Rattle.styles.specs.StylesIn.{styles-in}
 use Rattle.styles.proofs.Sound.{good-styles}
 use Rattle.rules.proofs.SoundFields.{length-field}
-use Rattle.parts.proofs.OfFields.{part-here}
+use Rattle.fields.proofs.OfFields.{part-here}
 use Rattle.pages.specs.OpsIn.{styled-in, run-fields-in, run-in, run-field-in, named-in, anchor-fields-in, anchor-in, if-block-in, leaf-in, node-by, node-in}
 use Rattle.pages.proofs.EachOf.{Gives, gives-nil, gives-more, gives-from, has-header}
 

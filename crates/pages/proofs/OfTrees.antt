@@ -10,7 +10,7 @@ use Rattle.rules.proofs.Typed.{inner-good}
 use Rattle.rules.proofs.Turned.{encode-leaf}
 use Rattle.pages.specs.OpsIn.{Ops, each-from, node-by, behind-fragment, fragments-by, indented-by, node-in, fragment-in}
 use Rattle.pages.proofs.EachOf.{Gives, gives-nil, gives-more, gives-from, gives-in, has-header}
-use Rattle.parts.proofs.Leaves.{leaf-at, room-left}
+use Rattle.fields.proofs.Leaves.{leaf-at, room-left}
 use Rattle.pages.proofs.OfLeaves.{leaf-says}
 
 -- ---- a block

@@ -11,7 +11,7 @@ use Rattle.fields.specs.declared.Field.{Field}
 use Rattle.fields.specs.declared.Field.the-variants.{Whole}
 use Rattle.fields.specs.FieldAt.{field-at}
 use Rattle.fields.proofs.Laws.{whole-inside}
-use Rattle.parts.specs.Walk as walk
+use Rattle.fields.specs.Walk as walk
 use Rattle.styles.specs.StylesIn.{styles-in}
 use Rattle.lines.specs.declared.LineOp.the-variants as Op
 use Rattle.lines.specs.Said.{operation, copies}

@@ -11,7 +11,7 @@ use Rattle.fields.specs.declared.Field.{Field}
 use Rattle.fields.specs.declared.Field.the-variants.{Whole, Past, Cut}
 use Rattle.fields.specs.FieldAt.{field-at}
 use Rattle.styles.specs.StylesIn.{styles-in}
-use Rattle.parts.specs.Walk.{part, here, rest}
+use Rattle.fields.specs.Walk.{part, here, rest}
 
 abbrev pub Ops : Type 0
 Ops = List (LineOp ℕ)

@@ -5,7 +5,7 @@ use crate::state::NEWLINE;
 use crate::state::broken;
 use crate::state::deeper;
 use crate::state::less_deep;
-use parts::field_end;
+use fields::parts::field_end;
 ghost use mathlib.Core.List.{List};
 ghost use Prim.Native.Nat.{ℕ, _+_, _-_, _<_, _≤_, _^_};
 ghost use lib.ListN.{length, take, drop};

@@ -8,7 +8,7 @@ use Rattle.fields.specs.declared.Field.the-variants.{Whole, Cut}
 use Rattle.fields.specs.FieldAt.{field-at, length-at}
 use Rattle.fields.proofs.Laws.{whole, cut}
 use Rattle.styles.specs.StylesIn.{no-styles, right-value, put-part, with-field, past-field, styles-from, styles-in}
-use Rattle.parts.specs.Walk.{part}
+use Rattle.fields.specs.Walk.{part}
 use Rattle.rigid.proofs.Places.{part-up-to, part-length}
 
 six-bytes : (v : List ℕ) → length v ≡ 6 → getD v 0 0 ≡ 32 → getD v 1 0 ≡ 0 → getD v 2 0 ≡ 3 → 10 ≡ byte-width (effective (styles-in v))

@@ -4,7 +4,7 @@ use Rattle.rules.specs.Bytes.{if_then_else_, newline}
 use Rattle.rules.specs.Layout.{Shape, Inline, Block, last, parts, only-if-block}
 use Rattle.looks.specs.Calm.{Calm, Says}
 use Rattle.looks.proofs.CalmBytes.{calm-lacks}
-use Rattle.parts.specs.Walk.{part}
+use Rattle.fields.specs.Walk.{part}
 use Rattle.texts.specs.FirstLine.{first-long}
 use Rattle.texts.proofs.Chunks.{no-newline}
 use Rattle.rigid.proofs.Places.{part-up-to, part-length}

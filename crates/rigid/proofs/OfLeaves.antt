@@ -11,10 +11,10 @@ use Rattle.rules.proofs.Turned.{leaf-bytes}
 use Rattle.fields.proofs.Encoded.{field-here}
 use Rattle.styles.specs.StylesIn.{styles-in}
 use Rattle.styles.proofs.Sound.{good-styles}
-use Rattle.parts.specs.Walk.{fold}
-use Rattle.parts.proofs.Loops.{fold-nil}
+use Rattle.fields.specs.Walk.{fold}
+use Rattle.fields.proofs.Loops.{fold-nil}
 use Rattle.rules.proofs.SoundFields.{length-field}
-use Rattle.parts.proofs.OfFields.{part-here, fold-field}
+use Rattle.fields.proofs.OfFields.{part-here, fold-field}
 use Rattle.rigid.specs.RigidIn.{wide, by-parts, text-in, chars-in, styled-in, run-in, with-run, anchor-in, by-tag, rigid-in}
 
 -- ---- a text

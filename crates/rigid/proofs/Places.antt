@@ -8,8 +8,8 @@ use Rattle.fields.specs.declared.Field.the-variants.{Whole}
 use Rattle.fields.specs.FieldAt.{field-at, length-at}
 use Rattle.fields.proofs.Laws.{is-whole, whole}
 use Rattle.styles.specs.StylesIn.{styles-in}
-use Rattle.parts.specs.Walk.{part, Ends}
-use Rattle.parts.proofs.Spans.{end-after, end-rises, end-within}
+use Rattle.fields.specs.Walk.{part, Ends}
+use Rattle.fields.proofs.Spans.{end-after, end-rises, end-within}
 use Rattle.rigid.specs.RigidIn.{text-in, chars-in, styled-in, run-in}
 
 -- ---- parts

@@ -7,8 +7,8 @@ use Rattle.fields.specs.FieldAt.{field-at}
 use Rattle.fields.proofs.Laws.{NotWhole, not-whole, rises}
 use Rattle.looks.specs.Calm.{Calm, Says}
 use Rattle.styles.specs.StylesIn.{styles-in}
-use Rattle.parts.specs.Walk.{part, fold, span, here, Ends}
-use Rattle.parts.proofs.Loops.{Left, left-more, left-ends, fold-nil, fold-step}
+use Rattle.fields.specs.Walk.{part, fold, span, here, Ends}
+use Rattle.fields.proofs.Loops.{Left, left-more, left-ends, fold-nil, fold-step}
 use Rattle.rigid.proofs.Lines.{calm-line}
 use Rattle.rigid.proofs.Places.{plain-text, styled-text, ends-in-file, part-up-to, part-of-front, part-length, part-first, part-behind, ends-rise, ends-inside}
 use Rattle.rigid.specs.RigidIn.{wide, text-in, chars-in, styled-in, run-in, with-run, anchor-in}

@@ -6,7 +6,7 @@ use Rattle.rules.specs.Limits.{most-tenths}
 use Rattle.rules.specs.Bytes.{cap}
 use Rattle.shapes.proofs.Appending.{cap-over}
 use Rattle.rules.specs.Layout.{Shape, Inline}
-use Rattle.parts.specs.Walk.{part}
+use Rattle.fields.specs.Walk.{part}
 use Rattle.rigid.specs.RigidIn.{wide, by-tag, rigid-in}
 use Rattle.rigid.proofs.Places.{part-length, part-first, part-behind}
 

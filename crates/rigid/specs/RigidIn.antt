@@ -10,7 +10,7 @@ use Rattle.fields.specs.declared.Field.{Field}
 use Rattle.fields.specs.declared.Field.the-variants.{Whole, Past, Cut}
 use Rattle.fields.specs.FieldAt.{field-at}
 use Rattle.styles.specs.StylesIn.{styles-in}
-use Rattle.parts.specs.Walk.{part, fold}
+use Rattle.fields.specs.Walk.{part, fold}
 
 -- n bytes, each w tenths of a column wide
 unfoldable pub wide : (n w : ℕ) → ℕ

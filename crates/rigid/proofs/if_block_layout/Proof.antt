@@ -1,7 +1,7 @@
 -- `rigid::if_block_layout` meets its contract: a short line, or any text.
 use Rattle.rules.proofs.Basics.{needs, ap, _∙_}
 use Rattle.rules.specs.Layout.{only-if-block}
-use Rattle.parts.specs.Walk.{part}
+use Rattle.fields.specs.Walk.{part}
 use Rattle.rigid.proofs.Lines.{calm-if-block}
 use Rattle.rigid.proofs.if_block_layout.Statement.{statement}
 use Rattle.rigid.proofs.if_block_layout.Tie as tie

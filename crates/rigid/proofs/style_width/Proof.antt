@@ -1,6 +1,6 @@
 -- `rigid::style_width` meets its contract: a colour alone, or any style.
 use Rattle.rules.proofs.Basics.{needs}
-use Rattle.parts.specs.Walk.{part}
+use Rattle.fields.specs.Walk.{part}
 use Rattle.rigid.proofs.style_width.Statement.{statement}
 use Rattle.rigid.proofs.style_width.Tie as tie
 

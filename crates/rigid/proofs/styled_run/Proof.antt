@@ -1,6 +1,6 @@
 -- `rigid::styled_run` meets its contract: a short line behind the style, or any run.
 use Rattle.rules.proofs.Basics.{needs}
-use Rattle.parts.specs.Walk.{part}
+use Rattle.fields.specs.Walk.{part}
 use Rattle.fields.proofs.Laws.{rises}
 use Rattle.rigid.proofs.Places.{ends-in-file}
 use Rattle.rigid.proofs.Runs.{styled-quick}

@@ -5,8 +5,8 @@ use borrow.Fn.PlainCycle.{Measures}
 use Rattle.fields.proofs.Cycles.{at, below}
 use Rattle.rules.specs.Layout.{Inline}
 use Rattle.shapes.specs.Shapes.{shape}
-use Rattle.parts.proofs.Spans.{end-after, end-within}
-use Rattle.parts.proofs.Loops.{Part, more, ends}
+use Rattle.fields.proofs.Spans.{end-after, end-within}
+use Rattle.fields.proofs.Loops.{Part, more, ends}
 use Rattle.layout.specs.Said.{said}
 use Rattle.layout.specs.LaidIn.{with-fragment, fragments-in, flex-in, fragment-in}
 use Rattle.layout.proofs.NodeLaws.{says, no-depth, no-bytes, other-tag, tag-three, tag-four}
@@ -29,7 +29,7 @@ use Rattle.layout.proofs.choice.larger.Reads as larger-reads
 use Rattle.layout.proofs.choice.room.Reads as room-reads
 use Rattle.layout.proofs.stretch.behind.Reads as behind-reads
 use Rattle.layout.proofs.stretch.ahead.Reads as ahead-reads
-use Rattle.parts.proofs.field_end.Reads as field-end-reads
+use Rattle.fields.proofs.parts.field_end.Reads as field-end-reads
 use Rattle.shapes.proofs.append.Reads as append-reads
 use Rattle.shapes.proofs.block_or_mixed.Reads as block-or-mixed-reads
 use Rattle.shapes.proofs.inline.Reads as inline-reads

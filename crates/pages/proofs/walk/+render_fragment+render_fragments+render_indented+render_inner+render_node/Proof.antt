@@ -1,6 +1,6 @@
 -- `render_node`, `render_indented`, `render_fragments`, `render_inner` and `render_fragment` meet their contracts: the blocks that are left fall; each loop's invariant is `Going`.
 use Rattle.rules.proofs.Basics.{refl, arith, length, needs, ℕ, _+_, _*_, _-_}
-use Rattle.parts.proofs.Spans.{end-rises, end-within, end-less}
+use Rattle.fields.proofs.Spans.{end-rises, end-within, end-less}
 use Rattle.pages.specs.States.{break-numbered}
 use Rattle.pages.specs.Ran.{indent-of}
 use Rattle.pages.specs.OpsIn.{fragments-by, node-in, three-in, fragment-in}
@@ -30,7 +30,7 @@ use Rattle.pages.proofs.state.broken.Reads as broken-reads
 use Rattle.pages.proofs.state.deeper.Reads as deeper-reads
 use Rattle.pages.proofs.state.less_deep.Reads as less-deep-reads
 use Rattle.pages.proofs.walk.end_fragment.Reads as end-fragment-reads
-use Rattle.parts.proofs.field_end.Reads as field-end-reads
+use Rattle.fields.proofs.parts.field_end.Reads as field-end-reads
 use Rattle.pages.proofs.walk.+render_fragment+render_fragments+render_indented+render_inner+render_node.{
   statement,
 }

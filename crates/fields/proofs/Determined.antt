@@ -1,6 +1,6 @@
 -- No second answer satisfies the contracts of this crate.
 use Rattle.rules.proofs.Basics.{_≡_, sym, _∙_, List, ℕ}
-use Rattle.parts.specs.Walk.{Ends, Is}
+use Rattle.fields.specs.Walk.{Ends, Is}
 
 pub ends-unique : {s : List ℕ} {at r u : ℕ} → Ends s at r → Ends s at u → r ≡ u
 ends-unique x y = x .end ∙ sym (y .end)

@@ -1,9 +1,9 @@
 -- The first field of bytes that begin with one.
 use Rattle.rules.proofs.Basics.{_≡_, sym, _∙_, List, _++_, ℕ, suc, _+_, _<_, arith, length, length-append, take-at, drop-at}
 use Rattle.rules.specs.Encode.{field}
 use Rattle.fields.proofs.Encoded.{value-here}
-use Rattle.parts.specs.Walk.{part, span, here, rest, walk, fold}
-use Rattle.parts.proofs.Loops.{walk-step, fold-step}
+use Rattle.fields.specs.Walk.{part, span, here, rest, walk, fold}
+use Rattle.fields.proofs.Loops.{walk-step, fold-step}
 
 -- the value of a field behind some bytes
 pub part-here : (a : List ℕ) (t : ℕ) (v b : List ℕ) → part (a ++ (field t v ++ b)) (length a + 3) (length a + 3 + length v) ≡ v

@@ -1,7 +1,7 @@
 -- A loop over the fields of a part: the invariant, its start, a turn and its end.
 use Rattle.rules.proofs.Basics.{_≡_, refl, sym, ap, _∙_, subst, List, [], _∷_, _++_, append-assoc, append-nil, ℕ, zero, suc, _+_, _-_, _<_, _≤_, arith, length, take, drop, length-drop, length-take, length-append, drop-of-length-le, take-all, take-at, drop-at, drop-drop}
-use Rattle.parts.specs.Walk.{span, here, rest, walk, over, fold, Is, Ends}
-use Rattle.parts.proofs.Spans.{span-le, span-positive}
+use Rattle.fields.specs.Walk.{span, here, rest, walk, over, fold, Is, Ends}
+use Rattle.fields.proofs.Spans.{span-le, span-positive}
 
 -- ---- loops that change no byte
 

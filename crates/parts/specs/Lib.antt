@@ -1,2 +1,0 @@
--- The fields of a list of bytes, one after the other.
-pub mod Walk
