@@ -25,9 +25,6 @@ module _ {A B : Type 0} {g : ℕ → A → List ℕ → B} {x : B} {s : List ℕ
         work = w ∙ step k ∙ ap (λ (y : List ℕ). g k b y) (drop-drop (span (drop at s)) at s ∙ ap (λ (n : ℕ). drop n s) (sym (e .end)));
       }
 
-  pub left-starts : {a : A} → x ≡ g (length s) a s → Left g x s 0 a
-  left-starts e = record { fuel = length s; enough = omega arith; work = e }
-
   pub left-ends : {at : ℕ} {a : A} {y : B} → Left g x s at a → length s ≤ at → ((k : ℕ) → g k a [] ≡ y) → x ≡ y
   left-ends {a = a} p h nil = p .work ∙ ap (λ (l : List ℕ). g (p .fuel) a l) (drop-of-length-le s h) ∙ nil (p .fuel)
 

@@ -102,11 +102,7 @@ module _ (st : Styles) where
   unfolding effective or-script said-styles flagged
   script-size e s = rw (e, s)
 
-  pub no-size : st .«has_size» ≡ false → (st .subscript || st .superscript) ≡ false → effective (said-styles st) ≡ none
-  unfolding effective or-script said-styles flagged
-  no-size e s = rw (e, s)
-
-  -- then there is one under a superscript
+  -- without a size there is one under a superscript
   pub without-size : st .«has_size» ≡ false → st .subscript ≡ false → st .superscript ≡ is-there (effective (said-styles st))
   unfolding effective or-script said-styles flagged is-there
   without-size e s = rw (e, s) (by-script (st .superscript))

@@ -26,11 +26,6 @@ said-styles st = record {
   dim = st .dim;
 }
 
--- an effective size, or 0 where there is none
-unfoldable pub or-zero : Option ℤ → ℤ
-or-zero none = pos 0
-or-zero (some size) = size
-
 unfoldable pub is-there : {A : Type 0} → Option A → Bool
 is-there none = false
 is-there (some a) = true

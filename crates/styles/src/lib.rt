@@ -9,7 +9,7 @@ ghost use Rattle.rules.specs.Bytes.{number};
 ghost use Rattle.rules.specs.Digits.{signed};
 ghost use Rattle.rules.specs.Walk.{right-opacity};
 ghost use Rattle.rules.specs.Layout as layout;
-ghost use Rattle.styles.specs.Said.{said-styles, or-zero, is-there, Allowed};
+ghost use Rattle.styles.specs.Said.{said-styles, is-there, Allowed};
 ghost use Rattle.styles.specs.StylesIn.{no-styles, with-field, styles-in, ColourAlone};
 ghost use Rattle.styles.specs.WidthIn.{script-with, width-with};
 use fields::Field;
@@ -240,25 +240,7 @@ pub fn read_styles(v: &[u8]) -> Styles
     st
 }
 
-// The size under 36 or 37.
-const SCRIPT_SIZE: i8 = -2;
-
-// The effective size: field 35; without it -2 under 36 or 37; otherwise 0.
-pub fn effective(st: Styles) -> i8
-    ensures { λ r. ⌜ r ≡ or-zero (layout.effective (said-styles st)) ⌝ }
-{
-    if st.has_size {
-        return st.size;
-    }
-    if st.subscript {
-        return SCRIPT_SIZE;
-    }
-    if st.superscript {
-        return SCRIPT_SIZE;
-    }
-    0
-}
-
+// Whether the style has an effective size: field 35, or -2 under 36 or 37.
 pub fn has_effective(st: Styles) -> bool
     ensures { λ r. ⌜ r ≡ is-there (layout.effective (said-styles st)) ⌝ }
 {
