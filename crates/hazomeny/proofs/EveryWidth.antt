@@ -8,7 +8,7 @@ use Rattle.rules.specs.Result.{Result, refused, accepted, _>>=_, said}
 use Rattle.rules.specs.Good.{Bytes}
 use Rattle.rules.specs.Plain.{fill}
 use Rattle.rules.specs.Html.{escape}
-use Rattle.rules.specs.Answers.{itself, check-answer, layout-outcome, written, left-page, plain-outcome, coded-outcome, decoded}
+use Rattle.rules.specs.Answers.{itself, check-answer, check-answer-by, layout-outcome, written, left-page, plain-outcome, coded-outcome, decoded}
 use Rattle.rules.specs.Alike.{Page, plain-page, outcome-of, shown}
 use Rattle.rules.specs.SameWords.{file-fields, without-7, TwoWidths, most-of, Short}
 use Rattle.rules.proofs.Chains.{bind-inv}
@@ -34,7 +34,7 @@ short-text most text q h = go (leb (length text) (length q)) refl
 -- what is left of an accepted file has pages that are as short as pages of the file
 short-page : (k : Page) (w : ℕ) (s q : List ℕ) → Bytes s → check-answer s ≡ accepted 0
     → Short (most-of k (length s)) (length q) (outcome-of k (layout-outcome w s .1) q .0)
-unfolding check-answer _>>=_
+unfolding check-answer-by _>>=_
 short-page k w s q b p =
     let (t, e, f) = bind-inv _ _ _ p in
     let u : List ℕ = layout-outcome w s .1 in

@@ -11,7 +11,7 @@ use Rattle.rules.specs.Layout.{layout}
 use Rattle.rules.specs.Good.{Bytes}
 use Rattle.rules.specs.Plain.{fill}
 use Rattle.rules.specs.Html.{escape}
-use Rattle.rules.specs.Answers.{itself, tree, check-answer, laid-out, left-laid, layout-outcome, written, left-page, coded, coded-outcome}
+use Rattle.rules.specs.Answers.{itself, tree, check-answer, check-answer-by, laid-out-by, left-laid, layout-outcome, layout-outcome-by, written, left-page, coded, coded-outcome}
 use Rattle.rules.specs.Alike.{Page, outcome-of, shown}
 use Rattle.rules.proofs.Files.{Read, tree-read}
 use Rattle.rules.proofs.Refused.{Refusable, too-long, at-fault, refused-place}
@@ -42,7 +42,7 @@ told-refused s n p e = go (refused-place s n p e)
     go (at-fault F l m) = omega (arith, F)
 
 pub told-check : (s : List ℕ) → Told (check-answer s)
-unfolding check-answer coded _>>=_
+unfolding check-answer-by coded _>>=_
 told-check s = go (tree s) refl
   where
     go : (x : Result (Frag ℕ)) → tree s ≡ x → Told (x >>= (λ t. accepted 0))
@@ -50,7 +50,7 @@ told-check s = go (tree s) refl
     go (accepted t) e = omega arith
 
 pub told-layout : (w : ℕ) (s : List ℕ) → Told (layout-outcome w s .0)
-unfolding layout-outcome laid-out left-laid coded need _>>_ _>>=_
+unfolding layout-outcome-by laid-out-by left-laid coded need _>>_ _>>=_
 told-layout w s = go (leb (length s) most-bytes) (leb w most-columns) (tree s) refl refl
   where
     go : (b c : Bool) (x : Result (Frag ℕ)) → leb (length s) most-bytes ≡ b → tree s ≡ x

@@ -3,7 +3,7 @@ use Rattle.rules.proofs.Basics.{_≡_, sym, subst, List, _++_, Bool, true, fals
 use Rattle.rules.specs.declared.Answer.{Answer}
 use Rattle.rules.specs.declared.Answer.the-variants.{Done}
 use Rattle.rules.specs.Result.{Result, refused, accepted, said}
-use Rattle.rules.specs.Answers.{written, left-page, plain-text, plain-outcome, document-text, document-outcome}
+use Rattle.rules.specs.Answers.{written, left-page, plain-text, plain-outcome, plain-outcome-by, document-text, document-outcome, document-outcome-by}
 use Rattle.pairs.specs.Masking.{mask-text, mask-outcome}
 
 -- an entry's count is within its page, so as many bytes can be taken from the page's start
@@ -30,11 +30,11 @@ module _ (s page : List ℕ) (a : Answer) {n : ℕ} {page′ : List ℕ} (q : a 
   counted x e = subst (λ (o : Result ℕ × List ℕ). Within (o .0) (o .1)) (sym (rw q at e)) (left-within x page)
 
   pub plain-in-page : (said a, page′) ≡ plain-outcome s page → InPage n page′
-  unfolding plain-outcome
+  unfolding plain-outcome-by
   plain-in-page e = counted (plain-text s) e
 
   pub document-in-page : (said a, page′) ≡ document-outcome s page → InPage n page′
-  unfolding document-outcome
+  unfolding document-outcome-by
   document-in-page e = counted (document-text s) e
 
   pub mask-in-page : (said a, page′) ≡ mask-outcome s page → InPage n page′

@@ -8,7 +8,7 @@ use Rattle.rules.specs.Result.{Result, refused, accepted, said}
 use Rattle.rules.specs.Tree.{Frag}
 use Rattle.rules.specs.Encode.{encode}
 use Rattle.rules.specs.Good.{Bytes}
-use Rattle.rules.specs.Answers.{check-answer, laid-out, changed, left-laid, layout-outcome, coded, coded-outcome, decoded}
+use Rattle.rules.specs.Answers.{check-answer, laid-out, changed, left-laid, layout-outcome, layout-outcome-by, coded, coded-outcome, decoded}
 use Rattle.rules.specs.Alike.{Page, plain-page, html-body, html-document, outcome-of}
 use Rattle.rules.specs.Cases.{unhex, call}
 use Rattle.rules.proofs.Chains.{no-path}
@@ -148,7 +148,7 @@ layout-counts-one n t e other =
 
 -- and of any file and width none but the number of bytes that changed
 pub layout-counts : (w : ℕ) (s : List ℕ) (n : ℕ) (t : List ℕ) → (said (Done n), t) ≡ layout-outcome w s → n ≡ length (changed 0 s t)
-unfolding said layout-outcome left-laid
+unfolding said layout-outcome-by left-laid
 layout-counts w s n t e = go (laid-out w s) e
   where
     go : (x : Result (Frag ℕ)) → (accepted n, t) ≡ left-laid s x → n ≡ length (changed 0 s t)

@@ -10,7 +10,7 @@ use Rattle.rules.specs.Tree.{Frag}
 use Rattle.rules.specs.Encode.{encode}
 use Rattle.rules.specs.Layout.{layout}
 use Rattle.rules.specs.Good.{Bytes}
-use Rattle.rules.specs.Answers.{tree, check-answer, changed, left-laid, layout-outcome, laid-out}
+use Rattle.rules.specs.Answers.{tree, check-answer, changed, left-laid, layout-outcome, layout-outcome-by, laid-out-by}
 use Rattle.verify.proofs.Verdicts.{RefusedSo, refused-so, AcceptedAs, accepted-as}
 use Rattle.rigid.proofs.OfLeaves.{rigid-leaf}
 use Rattle.fields.specs.Walk.{Is}
@@ -20,7 +20,7 @@ use Rattle.layout.proofs.OfTrees.{laid-tree}
 -- past the two tests the walk decides
 module _ (w : ℕ) (s : List ℕ) (h : length s ≤ most-bytes) (g : w ≤ most-columns) where
   checked-outcome : layout-outcome w s ≡ left-laid s (tree s >>= (λ t. accepted (layout newline w t)))
-  unfolding layout-outcome laid-out need _>>_ _>>=_
+  unfolding layout-outcome-by laid-out-by need _>>_ _>>=_
   checked-outcome = rw (le-leb (length s) most-bytes h, le-leb w most-columns g) refl
 
   pub refused-outcome : (a : Answer) {r : Refusal} → a ≡ Refused r → said a ≡ check-answer s → (said a, s) ≡ layout-outcome w s

@@ -2,7 +2,7 @@
 use Rattle.rules.proofs.Basics.{_≡_, refl, sym, ap, _∙_, List, [], _∷_, Option, none, some, Bool, true, false, and-eq-true-iff, ℕ, zero, suc, _+_, _≤_, _<_, arith, leb, ltb, eqb, length, getD, leb-true, ltb-true, lt-ltb, eqb-true, eqb-false, ne-eqb}
 use Rattle.rules.specs.Limits.{first-style, last-style}
 use Rattle.rules.specs.Bytes.{if_then_else_, within}
-use Rattle.rules.specs.Walk.{Fields, end, bytes, inside, in-styles, allowed, right-length, holds}
+use Rattle.rules.specs.Walk.{Fields, end, bytes, inside, in-styles, allowed, allowed-to, right-length, holds}
 use Rattle.rules.specs.Tree.{Run, bytes-of}
 use Rattle.scripts.specs.Formed.{Rising, Formed-style}
 use Rattle.moves.specs.declared.Style.{Style}
@@ -13,7 +13,7 @@ use Rattle.moves.specs.Calls.{Sized, is-some, or-else, no-style, style-r
 
 -- a style's tag behind another
 pub style-tag : (b t : ℕ) → allowed in-styles b t ≡ true → (b < t) × (first-style ≤ t) × (t ≤ last-style)
-unfolding allowed
+unfolding allowed-to
 style-tag b t e =
     let (w, l) = and-eq-true-iff (within first-style last-style t) (ltb b t) .0 e in
     let (m, n) = and-eq-true-iff (leb first-style t) (leb t last-style) .0 w in
@@ -21,7 +21,7 @@ style-tag b t e =
 
 -- behind another that is in front of it
 allowed-behind : (b c t : ℕ) → c < t → allowed in-styles b t ≡ true → allowed in-styles c t ≡ true
-unfolding allowed
+unfolding allowed-to
 allowed-behind b c t l e = rw (and-eq-true-iff (within first-style last-style t) (ltb b t) .0 e .0, lt-ltb c t l)
 
 rising-from : (i : Fields ℕ) (b c : ℕ) → ((t : ℕ) → b < t → first-style ≤ t → c < t) → Rising b i → Rising c i
@@ -37,7 +37,7 @@ rising-with true b t v r e q n k = (e, n, q, k)
 rising-with false b t v r e q n k = let (m, _, _) = style-tag b t e in rising-from r t b (λ u l _. omega arith) k
 
 pub style-rises : (st : Style) → Sized st → Rising 0 (style-fields st)
-unfolding style-fields allowed holds right-length
+unfolding style-fields allowed-to holds right-length
 style-rises st s =
     rising-with (st .«has_colour») 0 32 _ _ refl refl (rw (s .colour-is))
     (rising-with (st .«has_opacity») 32 33 _ _ refl refl (rw (s .opacity-is))

@@ -13,7 +13,7 @@ use Rattle.rules.specs.Lines.{start, Item, items}
 use Rattle.rules.specs.Plain.{plain, fill}
 use Rattle.rules.specs.Html.{escape, makes, items-html, opening, closing, before-body, after-body, body, document}
 use Rattle.rules.specs.Alike.{plain-page, html-body, html-document}
-use Rattle.rules.specs.Answers.{itself, tree, check-answer, written, left-page, plain-text, plain-outcome, body-text, body-outcome, document-text, document-outcome}
+use Rattle.rules.specs.Answers.{itself, tree, check-answer, written, left-page, plain-text-by, plain-outcome-by, body-text-by, body-outcome-by, document-text-by, document-outcome-by}
 use Rattle.rules.proofs.Chains.{no-path}
 use Rattle.verify.proofs.Verdicts.{RefusedSo, refused-so, AcceptedAs, accepted-as}
 use Rattle.writing.specs.Written.{last, Written}
@@ -89,7 +89,7 @@ fits-surely K.the-variants.Document s t room b e h = omega (arith, page-most htm
 
 -- what a kind answers, by its page
 outcome-of : (k : Kind) (s page : List ℕ) → left-page (tree s >>= (λ t. accepted (page-of k t))) page ≡ page-outcome k s page
-unfolding page-outcome page-of plain-outcome plain-text body-outcome body-text document-outcome document-text _>>=_
+unfolding page-outcome page-of plain-outcome-by plain-text-by body-outcome-by body-text-by document-outcome-by document-text-by _>>=_
 outcome-of K.the-variants.Plain s page = refl
 outcome-of K.the-variants.Body s page = refl
 outcome-of K.the-variants.Document s page = refl

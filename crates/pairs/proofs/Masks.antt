@@ -7,7 +7,7 @@ use Rattle.rules.specs.Walk.{Fields, end, bytes, inside, check, content}
 use Rattle.rules.specs.Tree.{Frag, map-fields}
 use Rattle.rules.specs.Encode.{field, encode-fields, frag-fields}
 use Rattle.rules.specs.Good.{Bytes}
-use Rattle.rules.specs.Answers.{itself, tree, check-answer}
+use Rattle.rules.specs.Answers.{itself, tree, check-answer, check-answer-by}
 use Rattle.rules.specs.Mask.{is-text, in-texts, text-places, Byte-alike, newlines, newlines-and-escapes, mask-byte, mask-bytes, mask}
 use Rattle.rules.specs.Alike.{AlikeFiles, plain-page, at, places}
 use Rattle.rules.proofs.Chains.{bind-inv}
@@ -24,11 +24,11 @@ use Rattle.pairs.proofs.OfFiles.{length-in, flags-of-file, length-of-fi
 -- ---- the two ways to say that a file is accepted
 
 pub its-tree : (s : List ℕ) → check-answer s ≡ accepted 0 → (t : Frag ℕ) × (tree s ≡ accepted t)
-unfolding check-answer
+unfolding check-answer-by
 its-tree s e = let (t, et, _) = bind-inv _ _ _ e in (t, et)
 
 pub tree-passes : (s : List ℕ) (t : Frag ℕ) → tree s ≡ accepted t → check-answer s ≡ accepted 0
-unfolding check-answer _>>=_
+unfolding check-answer-by _>>=_
 tree-passes s t e = rw e
 
 -- ---- the mask is accepted

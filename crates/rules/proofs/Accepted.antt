@@ -3,7 +3,7 @@ use Rattle.rules.proofs.Basics.{_≡_, refl, sym, _∙_, ap, subst, Lis
 use Rattle.rules.specs.Limits.{most-blocks}
 use Rattle.rules.specs.Bytes.{number, number-from}
 use Rattle.rules.specs.Result.{Result, accepted}
-use Rattle.rules.specs.Walk.{Fields, end, Holder, Field, front, valued, Value, of-bytes, of-fields, put, Content, walk, holds, allowed, right-length, is-block}
+use Rattle.rules.specs.Walk.{Fields, end, Holder, Field, front, front-to, valued, Value, of-bytes, of-fields, put, Content, walk, walk-to, holds, allowed, right-length, is-block}
 use Rattle.rules.specs.Encode.{field, encode-fields}
 use Rattle.rules.specs.Good.{Bytes, depth-in, Stands, AllHold, GoodAs}
 use Rattle.rules.specs.Answers.{itself}
@@ -53,7 +53,7 @@ record Fronted (h : Holder) (d before x : ℕ) (s : List ℕ) (f : Field ℕ) : 
 
 front-inv : (h : Holder) (d before p x : ℕ) (s : List ℕ) (f : Field ℕ) → Bytes s → front itself h d before p x s ≡ accepted f
     → Fronted h d before x s f
-unfolding front
+unfolding front-to
 front-inv h d before p x s f bs e =
     let e₁ = need-inv _ _ _ _ _ e in
     let e₂ = need-inv _ _ _ _ _ (e₁ .1) in
@@ -118,7 +118,7 @@ module _ (asked : Content) where
 
   pub walk-good : (k : ℕ) (h : Holder) (d before p : ℕ) (s : List ℕ) (i : Fields ℕ) → length s ≤ k → Bytes s
       → walk asked itself k h d before p s ≡ accepted i → GoodAs asked h d before i × (encode-fields i ≡ s)
-  unfolding walk
+  unfolding walk-to
   walk-good zero h d before p [] i l bs e = end-good h d before i e
   walk-good zero h d before p (x ∷ s) i l bs e = absurd (omega arith)
   walk-good (suc k) h d before p [] i l bs e = end-good h d before i e

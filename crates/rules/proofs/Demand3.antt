@@ -8,13 +8,13 @@ use Rattle.rules.specs.Limits.{most-columns}
 use Rattle.rules.specs.Bytes.{if_then_else_, has, newline}
 use Rattle.rules.specs.Result.{accepted, refused, _>>=_, _>>_, need}
 use Rattle.rules.specs.Walk.{check, content}
-use Rattle.rules.specs.Tree.{Frag, frag-of, read}
+use Rattle.rules.specs.Tree.{Frag, frag-of, read, read-to}
 use Rattle.rules.specs.Encode.{encode}
 use Rattle.rules.specs.Layout.{layout}
 use Rattle.rules.specs.Lines.{Out, made, copied}
 use Rattle.rules.specs.Plain.{plain, fill}
 use Rattle.rules.specs.Html.{ampersand, less-than, as-it-is, escape, body, document}
-use Rattle.rules.specs.Answers.{itself, tree, changed, left-laid, layout-outcome, written, left-page, plain-text, plain-outcome, body-text, body-outcome, document-text, document-outcome}
+use Rattle.rules.specs.Answers.{itself, tree, changed, left-laid, layout-outcome, written, left-page, plain-text-by, plain-outcome-by, body-text-by, body-outcome-by, document-text-by, document-outcome-by}
 use Rattle.rules.specs.Mask.{text-places, Byte-alike, Alike}
 use Rattle.rules.specs.Alike.{AlikeFiles, SameLayout, Page, plain-page, html-body, html-document, outcome-of, kept, shown, at, places, place-tree, page-list, OneList}
 use Rattle.rules.proofs.Maps.{map-frag}
@@ -40,7 +40,7 @@ record OneTree (s s′ : List ℕ) : Type 0 where
   filled′ : tree s′ ≡ accepted (map-frag (at s′) over)
 
 one-tree : {kept s s′ : List ℕ} → AlikeFiles kept s s′ → OneTree s s′
-unfolding place-tree read _>>=_
+unfolding place-tree read-to _>>=_
 one-tree {kept} {s} {s′} F =
     let P = placed s (F .bytes) (F .passes) in
     let P′ = placed s′ (F .bytes′) (F .passes′) in
@@ -93,7 +93,7 @@ seen {kept = kept} {s} {s′} q S A = fun-ext (λ p. go p (leb (length s) p) ref
 
 -- what a page's entry answers and leaves, whichever page it is
 pub by-kind : (k : Page) (s q : List ℕ) → outcome-of k s q ≡ left-page (tree s >>= (λ t. accepted (fill itself (shown k escape newline t)))) q
-unfolding plain-outcome plain-text body-outcome body-text document-outcome document-text
+unfolding plain-outcome-by plain-text-by body-outcome-by body-text-by document-outcome-by document-text-by
 by-kind plain-page s q = refl
 by-kind html-body s q = refl
 by-kind html-document s q = refl

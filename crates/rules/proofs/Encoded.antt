@@ -2,7 +2,7 @@
 use Rattle.rules.proofs.Basics.{_≡_, refl, List, [], _∷_, _++_, map, true, ℕ, zero, suc, _+_, _-_, _/_, _%_, _≤_, arith, leb, length, length-append, take-at, drop-at, le-leb}
 use Rattle.rules.specs.Bytes.{number}
 use Rattle.rules.specs.Result.{accepted, _>>=_, _>>_, need}
-use Rattle.rules.specs.Walk.{Fields, end, bytes, inside, Holder, Content, front, valued, walk, complete, tags}
+use Rattle.rules.specs.Walk.{Fields, end, bytes, inside, Holder, Content, front, front-to, valued, walk, walk-to, complete, tags}
 use Rattle.rules.specs.Encode.{field, encode-fields}
 use Rattle.rules.specs.Good.{depth-in, Stands, GoodAs}
 use Rattle.rules.specs.Answers.{itself}
@@ -11,7 +11,7 @@ use Rattle.rules.proofs.Accepted.{number-two, map-itself}
 
 front-field : (h : Holder) (d before p t : ℕ) (v rest : List ℕ) → Stands h d before t (length v)
     → front itself h d before p t ((length v / 256) ∷ (length v % 256) ∷ (v ++ rest)) ≡ accepted (record { tag = t; value = v; rest = rest })
-unfolding front need _>>_
+unfolding front-to need _>>_
 front-field h d before p t v rest S =
     let n : number (map itself ((length v / 256) ∷ (length v % 256) ∷ [])) ≡ length v = omega (arith, number-two (length v / 256) (length v % 256)) in
     let s : List ℕ = (length v / 256) ∷ (length v % 256) ∷ (v ++ rest) in
@@ -21,7 +21,7 @@ front-field h d before p t v rest S =
 
 pub good-walk : (asked : Content) (i : Fields ℕ) (k : ℕ) (h : Holder) (d before p : ℕ) → length (encode-fields i) ≤ k → GoodAs asked h d before i
     → walk asked itself k h d before p (encode-fields i) ≡ accepted i
-unfolding walk encode-fields field valued _>>=_ _>>_
+unfolding walk-to encode-fields field valued _>>=_ _>>_
 good-walk asked end zero h d before p l G = refl
 good-walk asked end (suc k) h d before p l G = refl
 good-walk asked (bytes t v r) zero h d before p l G = absurd (omega arith)

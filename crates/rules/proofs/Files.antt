@@ -4,8 +4,8 @@ use Rattle.rules.proofs.Basics.{_≡_, refl, sym, _∙_, ap, ap₂, sub
 use Rattle.rules.specs.Limits.{most-bytes}
 use Rattle.rules.specs.Bytes.{has}
 use Rattle.rules.specs.Result.{accepted, need, _>>_, _>>=_}
-use Rattle.rules.specs.Walk.{Fields, in-fragment, Content, content, check, tags}
-use Rattle.rules.specs.Tree.{Run, Leaf, text, anchor, space, force, if-block, indented, flexible, Frag, stop, leaf, block, Frags, none-left, frag, read, frag-of, frags-of, run-of, runs-of, anchor-of, bytes-of, fields-of, or-empty}
+use Rattle.rules.specs.Walk.{Fields, in-fragment, Content, content, check, check-to, tags}
+use Rattle.rules.specs.Tree.{Run, Leaf, text, anchor, space, force, if-block, indented, flexible, Frag, stop, leaf, block, Frags, none-left, frag, read, read-to, frag-of, frags-of, run-of, runs-of, anchor-of, bytes-of, fields-of, or-empty}
 use Rattle.rules.specs.Encode.{encode, encode-fields, frag-fields, frags-fields, leaf-fields, run-fields, runs-fields, anchor-tag, block-tag}
 use Rattle.rules.specs.Good.{Bytes, GoodAs, GoodTreeAs, GoodTree}
 use Rattle.rules.specs.Answers.{itself, tree}
@@ -66,7 +66,7 @@ pub record ReadAs (asked : Content) (s : List ℕ) (t : Frag ℕ) : Type 0 where
 
 module _ {asked : Content} where
   pub read-good : (s : List ℕ) (t : Frag ℕ) → Bytes s → read asked itself s ≡ accepted t → ReadAs asked s t
-  unfolding read check encode
+  unfolding read-to check-to encode
   read-good s t bs e =
       let (i, h, e₁) = bind-inv _ _ _ e in
       let (l, h₁) = need-inv _ _ _ _ _ h in
@@ -81,12 +81,12 @@ module _ {asked : Content} where
       }
 
   pub good-check : (t : Frag ℕ) → GoodTreeAs asked t → check asked itself (encode t) ≡ accepted (frag-fields t)
-  unfolding check encode need _>>_
+  unfolding check-to encode need _>>_
   good-check t G =
       simp (le-leb (length (encode t)) most-bytes (G .short), good-walk asked (frag-fields t) (length (encode t)) in-fragment 0 0 0 (le-refl _) (G .good))
 
   good-reads : (t : Frag ℕ) → GoodTreeAs asked t → read asked itself (encode t) ≡ accepted t
-  unfolding read _>>=_
+  unfolding read-to _>>=_
   good-reads t G = simp (good-check t G, frag-back t)
 
   -- ACCEPTED EXACTLY WHEN IT IS THE ENCODING OF A GOOD TREE

@@ -2,7 +2,7 @@
 use Rattle.rules.proofs.Basics.{_≡_, refl, sym, _∙_, ap, List, [], _∷_, map, Option, none, some, ℕ, zero, suc, _+_, _-_, _≤_, arith, length, take, drop, length-take, length-drop, leb-true}
 use Rattle.rules.specs.Bytes.{number}
 use Rattle.rules.specs.Result.{Result, refused, accepted, _>>=_, _>>_, sound}
-use Rattle.rules.specs.Walk.{Fields, Holder, Field, Value, of-fields, put, front, Content, valued, walk, holds, complete, tags}
+use Rattle.rules.specs.Walk.{Fields, Holder, Field, Value, of-fields, put, front, front-to, Content, valued, walk, walk-to, holds, complete, tags}
 use Rattle.rules.specs.Good.{depth-in}
 use Rattle.rules.proofs.Chains.{need-inv}
 
@@ -19,7 +19,7 @@ module _ {X : Type 0} (byte : X → ℕ) where
 
   pub front-fits : (h : Holder) (d before p : ℕ) (x : X) (s : List X) (f : Field X) → front byte h d before p x s ≡ accepted f
       → (p + 3 + length (f .value) ≤ p + length (x ∷ s)) × (p + (3 + length (f .value)) + length (f .rest) ≤ p + length (x ∷ s))
-  unfolding front
+  unfolding front-to
   front-fits h d before p x s f e =
       let e₁ = need-inv _ _ _ _ _ e in
       let e₂ = need-inv _ _ _ _ _ (e₁ .1) in
@@ -47,7 +47,7 @@ module _ (asked : Content) {X : Type 0} (byte : X → ℕ) where
 
   -- WHAT IS ENOUGH IS ENOUGH: from the length on more fuel changes nothing
   pub enough : (k j : ℕ) (h : Holder) (d before p : ℕ) (s : List X) → length s ≤ k → length s ≤ j → walk asked byte k h d before p s ≡ walk asked byte j h d before p s
-  unfolding walk
+  unfolding walk-to
   enough zero zero h d before p s a b = refl
   enough zero (suc j) h d before p [] a b = refl
   enough zero (suc j) h d before p (x ∷ s) a b = absurd (omega arith)

@@ -1,7 +1,7 @@
 -- The file that layout leaves: of the same length, accepted, as the tree laid out.
 use Rattle.rules.proofs.Basics.{_≡_, refl, sym, subst, List, _++_, Bool, some, ℕ, _+_, arith, length, length-append}
 use Rattle.rules.specs.Result.{accepted}
-use Rattle.rules.specs.Walk.{Fields, bytes, inside, end, in-fragment, in-block, holds, allowed, right-length, is-block, complete}
+use Rattle.rules.specs.Walk.{Fields, bytes, inside, end, in-fragment, in-block, holds, allowed-to, right-length, is-block, complete}
 use Rattle.rules.specs.Tree.{Leaf, text, anchor, space, force, if-block, Kind, indented, flexible, Frag, Frags}
 use Rattle.rules.specs.Layout.{layout}
 use Rattle.rules.specs.Encode.{field, encode-fields, frag-fields, frags-fields, leaf-fields, block-tag, encode}
@@ -47,7 +47,7 @@ layout-length newline w t = sym (laid-length (layout-laid newline w t))
 
 -- in a fragment the tag before does not matter
 stands-before : (d b b′ t n : ℕ) → Stands in-fragment d b t n → Stands in-fragment d b′ t n
-unfolding allowed
+unfolding allowed-to
 stands-before d b b′ t n S = record { right-tag = S .right-tag; fits = S .fits; length-right = S .length-right; not-deep = S .not-deep }
 
 good-before : (d b b′ : ℕ) (i : Fields ℕ) → Good in-fragment d b i → Good in-fragment d b′ i
@@ -66,7 +66,7 @@ good-leaf (if-block v) d b x y h G = (G .0, G .1, G .2, h _ (G .3))
 
 -- a block whose tag is turned
 stands-turn : {k k′ : Kind} (d b n : ℕ) → Turn k k′ → Stands in-fragment d b (block-tag k) n → Stands in-fragment d b (block-tag k′) n
-unfolding block-tag allowed right-length is-block
+unfolding block-tag allowed-to right-length is-block
 stands-turn d b n stays S = S
 stands-turn d b n turned S = record { right-tag = refl; fits = S .fits; length-right = refl; not-deep = S .not-deep }
 

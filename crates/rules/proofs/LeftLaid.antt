@@ -7,7 +7,7 @@ use Rattle.rules.specs.Tree.{Frag}
 use Rattle.rules.specs.Encode.{frag-fields, encode}
 use Rattle.rules.specs.Layout.{layout}
 use Rattle.rules.specs.Good.{Bytes}
-use Rattle.rules.specs.Answers.{tree, check-answer, laid-out, changed, left-laid, layout-outcome}
+use Rattle.rules.specs.Answers.{tree, check-answer, check-answer-by, laid-out-by, changed, left-laid, layout-outcome, layout-outcome-by}
 use Rattle.rules.specs.Mask.{in-texts, accepted-texts, text-places}
 use Rattle.rules.specs.Alike.{at}
 use Rattle.rules.proofs.Files.{Read, tree-read, good-check}
@@ -45,12 +45,12 @@ module _ (w : ℕ) (s : List ℕ) (t : Frag ℕ) (bs : Bytes s) (e : tree s ≡ 
       texts-of-read (record { checked = good-check _ G; encodes = refl; good = G }) ∙ sym (laid-texts (layout-laid newline w t)) ∙ sym (texts-of-read R)
 
   pub laid-passes : check-answer laid ≡ accepted 0
-  unfolding check-answer _>>=_
+  unfolding check-answer-by _>>=_
   laid-passes = rw (layout-read newline w s t bs e)
 
   -- an accepted file is not too long, so that only the width can be refused
   pub laid-by-width : layout-outcome w s ≡ left-laid s (need (leb w most-columns) 2 0 >> accepted (layout newline w t))
-  unfolding layout-outcome laid-out need _>>_ _>>=_
+  unfolding layout-outcome-by laid-out-by need _>>_ _>>=_
   laid-by-width =
       let R = tree-read s t bs e in
       let short : length s ≤ most-bytes = rw (R .encodes) at (R .good .short) in

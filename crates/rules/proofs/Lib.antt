@@ -44,3 +44,4 @@ pub mod ItemCosts
 pub mod PageLengths
 pub mod TwoWidths
 pub mod Unique
+pub mod Earlier

@@ -4,9 +4,9 @@ use Rattle.rules.specs.Bytes.{if_then_else_, has}
 use Rattle.rules.specs.Utf8.{utf8, utf8-after, following}
 use Rattle.rules.specs.Result.{accepted, _>>=_}
 use Rattle.rules.specs.Walk.{Fields, check, text-content, content}
-use Rattle.rules.specs.Tree.{read}
+use Rattle.rules.specs.Tree.{read, read-to}
 use Rattle.rules.specs.Good.{Bytes}
-use Rattle.rules.specs.Answers.{tree, check-answer}
+use Rattle.rules.specs.Answers.{tree, check-answer, check-answer-by}
 use Rattle.rules.specs.Mask.{is-text, text-places, Byte-alike, mask-byte, mask-bytes, mask}
 use Rattle.rules.specs.Alike.{AlikeFiles, Page, plain-page, html-body, html-document, kept, at, places}
 use Rattle.rules.proofs.Chains.{no-path}
@@ -94,7 +94,7 @@ module _ (kept : List ℕ) (ascii : Ascii kept) (plain-x : has 120 kept ≡ fals
 
     -- a file that is accepted when read by its places is accepted
     passed : (s : List ℕ) (i : Fields ℕ) → check content (at s) (places 0 (length s)) ≡ accepted i → check-answer s ≡ accepted 0
-    unfolding check-answer tree read _>>=_
+    unfolding check-answer-by tree read-to _>>=_
     passed s i q = rw (check-places s ∙ ap (map-result _) q)
 
     mask-at : (k : ℕ) → k < length s → Q (getD (text-places s) k false) k

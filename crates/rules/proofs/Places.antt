@@ -8,7 +8,7 @@ use Rattle.rules.specs.Encode.{frag-fields}
 use Rattle.rules.specs.Good.{Bytes, Good}
 use Rattle.rules.specs.Lines.{Out, made, copied}
 use Rattle.rules.specs.Html.{Escape}
-use Rattle.rules.specs.Answers.{itself, tree, check-answer}
+use Rattle.rules.specs.Answers.{itself, tree, check-answer, check-answer-by}
 use Rattle.rules.specs.Mask.{is-text, in-texts, accepted-texts, text-places}
 use Rattle.rules.specs.Alike.{Page, plain-page, html-body, html-document, shown, at, places, place-tree, Below}
 use Rattle.rules.proofs.Chains.{no-path, bind-inv}
@@ -48,7 +48,7 @@ pub record Placed (s : List ℕ) : Type 0 where
   pub through : tree s ≡ accepted (map-frag (at s) (frag-of (at s) fields))
 
 pub placed : (s : List ℕ) → Bytes s → check-answer s ≡ accepted 0 → Placed s
-unfolding check-answer text-places accepted-texts
+unfolding check-answer-by text-places accepted-texts
 placed s bs e =
     let (t, et, _) = bind-inv _ _ _ e in
     let R = tree-read s t bs et in

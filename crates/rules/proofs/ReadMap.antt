@@ -2,8 +2,8 @@
 use Rattle.rules.proofs.Basics.{_≡_, refl, _∙_, ap, ap₂, List, [], _∷_, map, Option, none, some, Option·map, Bool, true, false, ℕ, zero, suc, _+_, eqb, length, length-map}
 use Rattle.rules.specs.Bytes.{if_then_else_, has}
 use Rattle.rules.specs.Result.{Result, refused, accepted, _>>=_, _>>_}
-use Rattle.rules.specs.Walk.{Fields, end, bytes, inside, Holder, in-fragment, Field, Value, of-bytes, of-fields, put, Content, front, valued, walk, check, tags, holds}
-use Rattle.rules.specs.Tree.{map-fields, text, space, force, if-block, Kind, Frag, leaf, block, Frags, frag, bytes-of, fields-of, or-empty, run-of, runs-of, anchor-of, frag-of, frags-of, read}
+use Rattle.rules.specs.Walk.{Fields, end, bytes, inside, Holder, in-fragment, Field, Value, of-bytes, of-fields, put, Content, front, front-to, valued, walk, walk-to, check, check-to, tags, holds}
+use Rattle.rules.specs.Tree.{map-fields, text, space, force, if-block, Kind, Frag, leaf, block, Frags, frag, bytes-of, fields-of, or-empty, run-of, runs-of, anchor-of, frag-of, frags-of, read, read-to}
 use Rattle.rules.specs.Good.{depth-in}
 use Rattle.rules.proofs.Maps.{map-run, map-leaf, map-frag, map-frags}
 use Rattle.rules.proofs.Lists.{map-map, take-map, drop-map, if-map}
@@ -43,7 +43,7 @@ module _ (asked : Content) {X Y : Type 0} (f : X → Y) (byte : Y → ℕ) where
 
   front-map : (h : Holder) (d before p : ℕ) (x : X) (s : List X)
       → front byte h d before p (f x) (map f s) ≡ map-result map-field (front old-byte h d before p x s)
-  unfolding front
+  unfolding front-to
   front-map h d before p x s =
       simp (take-map, drop-map, map-map, length-map)
       (then-map map-field _ _ _ (then-map map-field _ _ _ (then-map map-field _ _ _ (then-map map-field _ _ _ (then-map map-field _ _ _ refl)))))
@@ -68,7 +68,7 @@ module _ (asked : Content) {X Y : Type 0} (f : X → Y) (byte : Y → ℕ) where
 
   walk-map : (k : ℕ) (h : Holder) (d before p : ℕ) (s : List X)
       → walk asked byte k h d before p (map f s) ≡ map-result (map-fields f) (walk asked old-byte k h d before p s)
-  unfolding walk
+  unfolding walk-to
   walk-map zero h d before p s = unfold map-fields in refl
   walk-map (suc k) h d before p [] = unfold map-fields in refl
   walk-map (suc k) h d before p (x ∷ s) =
@@ -148,10 +148,10 @@ module _ (asked : Content) {X Y : Type 0} (f : X → Y) (byte : Y → ℕ) where
     frags-of-map (inside t i r) = ap₂ frag (frag-of-map i) (frags-of-map r)
 
   pub check-map : (s : List X) → check asked byte (map f s) ≡ map-result (map-fields f) (check asked old-byte s)
-  unfolding check
+  unfolding check-to
   check-map s = simp length-map (then-map (map-fields f) _ _ _ (walk-map (length s) in-fragment 0 0 0 s))
 
   -- THE TREE OF A MAPPED FILE
   pub read-map : (s : List X) → read asked byte (map f s) ≡ map-result (map-frag f) (read asked old-byte s)
-  unfolding read
+  unfolding read-to
   read-map s = bind-map (map-fields f) (map-frag f) _ _ _ _ (check-map s) (λ i. ap accepted (frag-of-map i))

@@ -3,8 +3,8 @@ use Rattle.rules.proofs.Basics.{_≡_, refl, sym, List, [], _∷_, map,
 use Rattle.rules.specs.Limits.{most-bytes}
 use Rattle.rules.specs.Bytes.{if_then_else_}
 use Rattle.rules.specs.Result.{Result, refused, accepted, _>>=_, _>>_, need, Check, _or-refuse_, sound}
-use Rattle.rules.specs.Walk.{Fields, Holder, in-fragment, in-block, in-text, in-anchor, in-styles, front, Content, valued, walk, check, text-content, anchor-content, content, complete, tags, holds}
-use Rattle.rules.specs.Tree.{Frag, read, frag-of}
+use Rattle.rules.specs.Walk.{Fields, Holder, in-fragment, in-block, in-text, in-anchor, in-styles, front, front-to, Content, valued, walk, walk-to, check, check-to, text-content, anchor-content, content, complete, tags, holds}
+use Rattle.rules.specs.Tree.{Frag, read-to, frag-of}
 use Rattle.rules.specs.Good.{depth-in}
 use Rattle.rules.specs.Answers.{itself, tree}
 use Rattle.rules.proofs.Chains.{no-path}
@@ -68,7 +68,7 @@ module _ (Ok : ℕ → Type 0) where
 
   module _ (low : (n : ℕ) → Fault n → Ok n) (asked : Content) (F : (t : ℕ) (v : List ℕ) → Numbers Ok (asked t v)) {X : Type 0} (byte : X → ℕ) where
     front-stood : (h : Holder) (d before p : ℕ) (x : X) (s : List X) → Stands-within p (p + length (x ∷ s)) (front byte h d before p x s)
-    unfolding front
+    unfolding front-to
     front-stood h d before p x s =
         let at : (n : ℕ) → Fault n → Stood p (p + length (x ∷ s)) n p = λ n f. record { number = low n f; from = le-refl p; to = omega arith } in
         need-stood _ _ _ 3 p _ (at 3 (omega arith)) λ _.
@@ -94,7 +94,7 @@ module _ (Ok : ℕ → Type 0) where
         bind-stood p hi _ _ (ih h) λ i _. sound-stood p hi p (complete h (tags i)) _ (complete-numbers h (tags i)) (le-refl p) l tt
 
     walk-stood : (k : ℕ) (h : Holder) (d before p : ℕ) (s : List X) → Stands-within p (p + length s) (walk asked byte k h d before p s)
-    unfolding walk
+    unfolding walk-to
     walk-stood zero h d before p s = tt
     walk-stood (suc k) h d before p [] = tt
     walk-stood (suc k) h d before p (x ∷ s) =
@@ -116,7 +116,7 @@ pub data Refusable (s : List ℕ) (n p : ℕ) : Type 0 where
 
 -- A REFUSED FILE'S PLACE IS AT MOST ITS LENGTH
 pub refused-place : (s : List ℕ) (n p : ℕ) → tree s ≡ refused n p → Refusable s n p
-unfolding tree read check _>>=_ _>>_ need
+unfolding tree read-to check-to _>>=_ _>>_ need
 refused-place s n p e = go (leb (length s) most-bytes) (walk content itself (length s) in-fragment 0 0 0 s) refl (walk-stood Fault (λ n f. f) content content-faults itself (length s) in-fragment 0 0 0 s) e
   where
     go : (b : Bool) (r : Result (Fields ℕ)) → b ≡ leb (length s) most-bytes → Stands-within Fault 0 (0 + length s) r

@@ -4,8 +4,8 @@ use Rattle.rules.proofs.Basics.{_≡_, refl, sym, _∙_, ap, ap₂, sub
 use Rattle.rules.specs.Limits.{most-bytes, first-style, last-style}
 use Rattle.rules.specs.Bytes.{if_then_else_, within, has, number}
 use Rattle.rules.specs.Result.{Result, accepted, _>>=_, _>>_, need, Check, sound}
-use Rattle.rules.specs.Walk.{Fields, end, bytes, inside, Holder, in-fragment, in-styles, Field, Value, of-bytes, of-fields, put, front, Content, valued, walk, check, tags, holds, allowed}
-use Rattle.rules.specs.Tree.{Frag, text, anchor, space, force, if-block, leaf, block, frag, indented, flexible, map-fields, bytes-of, fields-of, or-empty, run-of, runs-of, anchor-of, frag-of, frags-of, read}
+use Rattle.rules.specs.Walk.{Fields, end, bytes, inside, Holder, in-fragment, in-styles, Field, Value, of-bytes, of-fields, put, front, front-to, Content, valued, walk, walk-to, check, check-to, tags, holds, allowed, allowed-to}
+use Rattle.rules.specs.Tree.{Frag, text, anchor, space, force, if-block, leaf, block, frag, indented, flexible, map-fields, bytes-of, fields-of, or-empty, run-of, runs-of, anchor-of, frag-of, frags-of, read, read-to}
 use Rattle.rules.specs.Good.{depth-in, AllHold, GoodAs}
 use Rattle.rules.specs.Mask.{is-text, in-texts}
 use Rattle.rules.proofs.Chains.{bind-inv, need-inv, sound-inv, all-sound}
@@ -23,7 +23,7 @@ sound-so cs p r h = ap (λ m. m >> r) (all-sound cs p h)
 
 -- a style's tag is no text's, and holds no fields
 style-not-text : (before t : ℕ) → allowed in-styles before t ≡ true → (is-text t ≡ false) × (holds t ≡ none)
-unfolding allowed is-text holds
+unfolding allowed-to is-text holds
 style-not-text before t h =
     let w : within first-style last-style t ≡ true = and-eq-true-iff (within first-style last-style t) (ltb before t) .0 h .0 in
     let l : first-style ≤ t = leb-true first-style t (and-eq-true-iff (leb first-style t) (leb t last-style) .0 w .0) in
@@ -126,7 +126,7 @@ module _ (asked : Content) {X : Type 0} (b b′ : X → ℕ) (Q : Bool → X →
 
   front-split : (h : Holder) (d before p : ℕ) (x : X) (s : List X) (f : Field X) → front b h d before p x s ≡ accepted f
       → (y : X) × (z : X) × (s ≡ y ∷ z ∷ (f .value ++ f .rest))
-  unfolding front
+  unfolding front-to
   front-split h d before p x s f e =
       let e₁ = need-inv _ _ _ _ _ e in
       let e₂ = need-inv _ _ _ _ _ (e₁ .1) in
@@ -148,7 +148,7 @@ module _ (asked : Content) {X : Type 0} (b b′ : X → ℕ) (Q : Bool → X →
   front-same : (h : Holder) (d before p : ℕ) (x y z : X) (s v w : List X) (t : ℕ) (g : Value X) (r : Fields X) → s ≡ y ∷ z ∷ (v ++ w)
       → length (value-texts t g) ≡ length v → Like (in-texts (put t g r)) (x ∷ s)
       → (front b′ h d before p x s ≡ front b h d before p x s) × Like (value-texts t g) v × Like (in-texts r) w
-  unfolding front
+  unfolding front-to
   front-same h d before p x y z s v w t g r es l L =
       let M : Like (false ∷ false ∷ false ∷ (value-texts t g ++ in-texts r)) (x ∷ y ∷ z ∷ (v ++ w)) = rw (put-texts t g r, es) at L in
       let two : map b (take 2 s) ≡ map b′ (take 2 s) = rw es (ap₂ (λ m n. m ∷ n ∷ []) (outside y (M .1 .0)) (outside z (M .1 .1 .0))) in
@@ -163,7 +163,7 @@ module _ (asked : Content) {X : Type 0} (b b′ : X → ℕ) (Q : Bool → X →
 
   walk-fixed : (k : ℕ) (h : Holder) (d before p : ℕ) (xs : List X) (i : Fields X) → length xs ≤ k → walk asked b k h d before p xs ≡ accepted i
       → Fixed (in-texts i) xs (Outside i) i (walk asked b′ k h d before p xs)
-  unfolding walk
+  unfolding walk-to
   walk-fixed zero h d before p [] i l e = end-fixed i _ e refl
   walk-fixed zero h d before p (x ∷ s) i l e = absurd (omega arith)
   walk-fixed (suc k) h d before p [] i l e = end-fixed i _ e refl
@@ -248,7 +248,7 @@ module _ (asked : Content) {X : Type 0} (b b′ : X → ℕ) (Q : Bool → X →
 
   -- THE SECOND READING GIVES THE SAME FIELDS
   pub check-same : (xs : List X) (i : Fields X) → check asked b xs ≡ accepted i → Known (check asked b′ xs) → Like (in-texts i) xs → (check asked b′ xs ≡ accepted i) × Outside i
-  unfolding check need _>>_
+  unfolding check-to need _>>_
   check-same xs i e K L =
       let (q, e₁) = need-inv (leb (length xs) most-bytes) 1 0 (walk asked b (length xs) in-fragment 0 0 0 xs) i e in
       rw q (walk-fixed (length xs) in-fragment 0 0 0 xs i (le-refl _) e₁ .same (rw q at K) L)
@@ -256,7 +256,7 @@ module _ (asked : Content) {X : Type 0} (b b′ : X → ℕ) (Q : Bool → X →
   -- AND THE SAME TREE
   pub read-same : (xs : List X) (i : Fields X) → check asked b xs ≡ accepted i → GoodAs asked in-fragment 0 0 (map-fields b i) → Known (check asked b′ xs) → Like (in-texts i) xs
       → read asked b xs ≡ read asked b′ xs
-  unfolding read
+  unfolding read-to
   read-same xs i e G K L =
       let (e′, O) = check-same xs i e K L in
       then-same _ e (ap accepted (frag-same i in-fragment 0 0 G O)) ∙ sym (then-same _ e′ refl)

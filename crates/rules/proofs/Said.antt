@@ -2,7 +2,7 @@
 use Rattle.rules.proofs.Basics.{_≡_, refl, sym, _∙_, ap, ap₂, List, [], _∷_, _++_, map, append-nil, Option, none, some, Bool, true, false, and-eq-true-iff, ℕ, _≤_, _<_, arith, leb, ltb, eqb, leb-true, ne-eqb}
 use Rattle.rules.specs.Limits.{first-style, last-style}
 use Rattle.rules.specs.Bytes.{if_then_else_, within}
-use Rattle.rules.specs.Walk.{Fields, end, bytes, inside, in-fragment, in-block, in-text, in-anchor, in-styles, holds, allowed}
+use Rattle.rules.specs.Walk.{Fields, end, bytes, inside, in-fragment, in-block, in-text, in-anchor, in-styles, holds, allowed, allowed-to}
 use Rattle.rules.specs.Tree.{styles-of, Run, Leaf, text, anchor, space, force, if-block, indented, flexible, Frag, stop, leaf, block, Frags, none-left, frag}
 use Rattle.rules.specs.Encode.{run-fields, runs-fields, anchor-tag, leaf-fields, block-tag, frag-fields, frags-fields}
 use Rattle.rules.specs.Good.{Good}
@@ -46,7 +46,7 @@ unfoldable mutual
 
 -- a style holds no text
 style-tag : (before t : ℕ) → allowed in-styles before t ≡ true → (is-text t ≡ false) × (holds t ≡ none)
-unfolding allowed is-text holds
+unfolding allowed-to is-text holds
 style-tag before t h =
     let w : within first-style last-style t ≡ true = and-eq-true-iff (within first-style last-style t) (ltb before t) .0 h .0 in
     let l : first-style ≤ t = leb-true first-style t (and-eq-true-iff (leb first-style t) (leb t last-style) .0 w .0) in

@@ -9,7 +9,7 @@ use Rattle.rules.specs.Good.{Bytes}
 use Rattle.rules.specs.Layout.{parts}
 use Rattle.rules.specs.Lines.{LineOp, part, mark, Mark, push, pop, open-anchor, close-anchor, char, marked, copied, later, styled, text-ops, run-ops, runs-ops, leaf-ops, ops, indented-ops, inline-ops, start, items}
 use Rattle.rules.specs.Plain.{chars}
-use Rattle.rules.specs.Answers.{tree, check-answer, layout-outcome}
+use Rattle.rules.specs.Answers.{tree, check-answer, check-answer-by, layout-outcome}
 use Rattle.rules.specs.SameWords.{white, white-item, without, words, visible, marks, accepted-fields, file-fields, texts, without-7, page-items, SaysTheSame}
 use Rattle.rules.proofs.Chains.{no-path, bind-inv}
 use Rattle.rules.proofs.Files.{Read, tree-read}
@@ -150,7 +150,7 @@ left-says {s} {u} {t} R e h L =
 
 module _ (s : List ℕ) (bs : Bytes s) (p : check-answer s ≡ accepted 0) (h : without-7 (file-fields s) ≡ true) where
   left-same : (u : List ℕ) → ((t : Frag ℕ) → tree s ≡ accepted t → Left s t u) → SaysTheSame s u
-  unfolding check-answer file-fields accepted-fields
+  unfolding check-answer-by file-fields accepted-fields
   left-same u left =
       let (t, e, q) = bind-inv _ _ _ p in
       let R = tree-read s t bs e in

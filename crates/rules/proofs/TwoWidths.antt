@@ -5,7 +5,7 @@ use Rattle.rules.specs.Result.{refused, accepted, _>>=_}
 use Rattle.rules.specs.Good.{Bytes}
 use Rattle.rules.specs.Lines.{Item, items}
 use Rattle.rules.specs.Plain.{chars, plain, fill}
-use Rattle.rules.specs.Answers.{itself, tree, check-answer, layout-outcome, written, left-page, plain-text, plain-outcome}
+use Rattle.rules.specs.Answers.{itself, tree, check-answer, check-answer-by, layout-outcome, written, left-page, plain-text, plain-text-by, plain-outcome, plain-outcome-by}
 use Rattle.rules.specs.SameWords.{words, visible, marks, texts, file-fields, without-7, page-items, SaysTheSame, TwoWidths}
 use Rattle.rules.proofs.Chains.{no-path, bind-inv}
 use Rattle.rules.proofs.LeftLaid.{left-by-layout}
@@ -15,7 +15,7 @@ use Rattle.rules.proofs.SameWords.{same-at-every-width}
 
 -- the plain page by its items
 plain-by-items : (t : List ℕ) (is : List (Item ℕ)) → page-items t ≡ accepted is → plain-text t ≡ accepted (fill itself (chars is))
-unfolding page-items plain-text plain _>>=_
+unfolding page-items plain-text-by plain _>>=_
 plain-by-items t is e =
     let (u, f, g) = bind-inv (tree t) (λ t. accepted (items newline t)) is e in
     let h : items newline u ≡ is = cc in
@@ -35,7 +35,7 @@ printed text q r m e = go (leb (length text) (length q)) e
 
 module _ (s : List ℕ) (bs : Bytes s) (p : check-answer s ≡ accepted 0) where
   page-words : {t : List ℕ} (S : SaysTheSame s t) (q r : List ℕ) (m : ℕ) → (accepted m, r) ≡ plain-outcome t q → words (take m r) ≡ words (texts (file-fields s))
-  unfolding plain-outcome
+  unfolding plain-outcome-by
   page-words {t} S q r m e =
       ap words (printed _ q r m (e ∙ ap (λ x. left-page x q) (plain-by-items t (S .of-t) (S .items-of-t)))) ∙ S .same-words
 
@@ -61,5 +61,5 @@ module _ (s : List ℕ) (bs : Bytes s) (p : check-answer s ≡ accepted 0) where
 
 -- what is left of an accepted file is bytes
 pub left-bytes : (w : ℕ) (s : List ℕ) → Bytes s → check-answer s ≡ accepted 0 → Bytes (layout-outcome w s .1)
-unfolding check-answer
+unfolding check-answer-by
 left-bytes w s bs p = let (t, e, f) = bind-inv (tree s) _ _ p in left-by-layout w s t bs e .are-bytes

@@ -3,7 +3,7 @@ use Rattle.rules.proofs.Basics.{_≡_, refl, sym, _∙_, ap, ap₂, sub
 use mathlib.Core.Logic.{dite}
 use native.Mathlib.Decide.{ℕ-discrete}
 use Rattle.rules.specs.Bytes.{if_then_else_, has}
-use Rattle.rules.specs.Walk.{Fields, end, bytes, inside, Holder, in-fragment, in-block, in-text, in-anchor, Content, content, complete, tags, holds, allowed, right-length}
+use Rattle.rules.specs.Walk.{Fields, end, bytes, inside, Holder, in-fragment, in-block, in-text, in-anchor, Content, content, complete, tags, holds, allowed, allowed-to, right-length}
 use Rattle.rules.specs.Tree.{Run, space, force, if-block, frag-of, frags-of, run-of, runs-of, anchor-of, map-fields, bytes-of, fields-of, or-empty}
 use Rattle.rules.specs.Encode.{frag-fields, frags-fields, leaf-fields, run-fields, runs-fields, anchor-tag, block-tag}
 use Rattle.rules.specs.Good.{depth-in, AllHold, GoodAs, Good}
@@ -33,7 +33,7 @@ fields-not t k h e q n = let z : holds k ≡ holds t = ap holds (sym e) in no-pa
 -- ---- what a text is, and which tags it has
 
 text-tag : (before t : ℕ) → allowed in-text before t ≡ true → ((before ≡ 0) × (t ≡ 16)) ⊎ ((before ≤ 16) × (t ≡ 17))
-unfolding allowed
+unfolding allowed-to
 text-tag before t h = go _ _ _ _ refl refl refl refl h
   where
     go : (a b c d : Bool) → a ≡ eqb before 0 → b ≡ eqb t 16 → c ≡ leb before 16 → d ≡ eqb t 17 → ((a && b) || (c && d)) ≡ true
@@ -62,13 +62,13 @@ text-round i (styled j v) = ap (λ j. inside 16 j (bytes 17 v end)) (map-fields-
 -- ---- the tags of an anchor and of a block
 
 run-tag : (before t : ℕ) → 0 < before → allowed in-anchor before t ≡ true → t ≡ 1
-unfolding allowed
+unfolding allowed-to
 run-tag before t b h =
     let e : eqb before 0 ≡ false = ne-eqb before 0 (λ (z : before ≡ 0). omega arith) in
     eqb-true t 1 (simp e at h)
 
 first-tag : (t : ℕ) → allowed in-anchor 0 t ≡ true → (t ≡ 18) ⊎ (t ≡ 19)
-unfolding allowed
+unfolding allowed-to
 first-tag t h = go _ _ refl refl h
   where
     go : (a b : Bool) → a ≡ eqb t 18 → b ≡ eqb t 19 → (a || b) ≡ true → (t ≡ 18) ⊎ (t ≡ 19)
@@ -77,7 +77,7 @@ first-tag t h = go _ _ refl refl h
     go false false p q h = no-path (cc)
 
 block-holds : (before t : ℕ) → allowed in-block before t ≡ true → t ≡ 8
-unfolding allowed
+unfolding allowed-to
 block-holds before t h = eqb-true t 8 h
 
 -- ---- a node, by its tag
@@ -95,7 +95,7 @@ is : (C : ℕ → Type 0) (t k : ℕ) → k ≤ t → C k → (suc k ≤ t → C
 is C t k l c other = dite (ℕ-discrete t k) (λ e. subst C (sym e) c) (λ n. other (omega arith))
 
 node : (before t : ℕ) → allowed in-fragment before t ≡ true → Node t
-unfolding allowed
+unfolding allowed-to
 node before t h =
     let b : (leb 1 t ≡ true) × (leb t 7 ≡ true) = and-eq-true-iff (leb 1 t) (leb t 7) .0 h in
     let l : 1 ≤ t = leb-true 1 t (b .0) in

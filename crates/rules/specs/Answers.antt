@@ -18,56 +18,16 @@ use Rattle.rules.specs.Html.{escape, body, document}
 abbrev pub itself : ℕ → ℕ
 itself b = b
 
--- a file's tree, by document 01's content
-unfoldable pub tree : List ℕ → Result (Frag ℕ)
-tree s = read content itself s
-
--- ---- the file check: nothing is counted, nothing is lent
-
-unfoldable pub check-answer : List ℕ → Result ℕ
-check-answer s = do
-  t ← tree s
-  accepted 0
-
--- ---- layout: 1, 2, then the walk
-
-unfoldable pub laid-out : (w : ℕ) → List ℕ → Result (Frag ℕ)
-laid-out w s = do
-  need (leb (length s) most-bytes) 1 0
-  need (leb w most-columns) 2 0
-  t ← tree s
-  accepted (layout newline w t)
-
 -- the places at which two files differ, counted from p
 unfoldable pub changed : (p : ℕ) → List ℕ → List ℕ → List ℕ
 changed p [] s′ = []
 changed p (a ∷ s) [] = []
 changed p (a ∷ s) (b ∷ s′) = let more : List ℕ = changed (suc p) s s′ in if eqb a b then more else p ∷ more
 
--- the answer is how many bytes changed; a refusal changes none
+-- layout answers how many bytes changed; a refusal changes none
 unfoldable pub left-laid : List ℕ → Result (Frag ℕ) → Result ℕ × List ℕ
 left-laid s (refused n p) = (refused n p, s)
 left-laid s (accepted t) = (accepted (length (changed 0 s (encode t))), encode t)
-
-unfoldable pub layout-outcome : (w : ℕ) → List ℕ → Result ℕ × List ℕ
-layout-outcome w s = left-laid s (laid-out w s)
-
--- ---- pages: the walk, then 10
-
-unfoldable pub plain-text : List ℕ → Result (List ℕ)
-plain-text s = do
-  t ← tree s
-  accepted (fill itself (plain newline t))
-
-unfoldable pub body-text : List ℕ → Result (List ℕ)
-body-text s = do
-  t ← tree s
-  accepted (fill itself (body escape newline t))
-
-unfoldable pub document-text : List ℕ → Result (List ℕ)
-document-text s = do
-  t ← tree s
-  accepted (fill itself (document escape newline t))
 
 -- a text that fits is written from the page's start, and later bytes stay; else the bytes needed
 unfoldable pub written : (fits : Bool) → (text page : List ℕ) → Result ℕ × List ℕ
@@ -78,14 +38,82 @@ unfoldable pub left-page : Result (List ℕ) → (page : List ℕ) → Result �
 left-page (refused n p) page = (refused n p, page)
 left-page (accepted text) page = written (leb (length text) (length page)) text page
 
-unfoldable pub plain-outcome : (s page : List ℕ) → Result ℕ × List ℕ
-plain-outcome s page = left-page (plain-text s) page
+-- ---- the entries, over how a file is read
 
-unfoldable pub body-outcome : (s page : List ℕ) → Result ℕ × List ℕ
-body-outcome s page = left-page (body-text s) page
+module _ (reading : List ℕ → Result (Frag ℕ)) where
+  -- the file check: nothing is counted, nothing is lent
+  unfoldable pub check-answer-by : List ℕ → Result ℕ
+  check-answer-by s = do
+    t ← reading s
+    accepted 0
 
-unfoldable pub document-outcome : (s page : List ℕ) → Result ℕ × List ℕ
-document-outcome s page = left-page (document-text s) page
+  -- layout: 1, 2, then the walk
+  unfoldable pub laid-out-by : (w : ℕ) → List ℕ → Result (Frag ℕ)
+  laid-out-by w s = do
+    need (leb (length s) most-bytes) 1 0
+    need (leb w most-columns) 2 0
+    t ← reading s
+    accepted (layout newline w t)
+
+  unfoldable pub layout-outcome-by : (w : ℕ) → List ℕ → Result ℕ × List ℕ
+  layout-outcome-by w s = left-laid s (laid-out-by w s)
+
+  -- pages: the walk, then 10
+  unfoldable pub plain-text-by : List ℕ → Result (List ℕ)
+  plain-text-by s = do
+    t ← reading s
+    accepted (fill itself (plain newline t))
+
+  unfoldable pub body-text-by : List ℕ → Result (List ℕ)
+  body-text-by s = do
+    t ← reading s
+    accepted (fill itself (body escape newline t))
+
+  unfoldable pub document-text-by : List ℕ → Result (List ℕ)
+  document-text-by s = do
+    t ← reading s
+    accepted (fill itself (document escape newline t))
+
+  unfoldable pub plain-outcome-by : (s page : List ℕ) → Result ℕ × List ℕ
+  plain-outcome-by s page = left-page (plain-text-by s) page
+
+  unfoldable pub body-outcome-by : (s page : List ℕ) → Result ℕ × List ℕ
+  body-outcome-by s page = left-page (body-text-by s) page
+
+  unfoldable pub document-outcome-by : (s page : List ℕ) → Result ℕ × List ℕ
+  document-outcome-by s page = left-page (document-text-by s) page
+
+-- ---- the entries: a file is read by document 01's content, and a style's last tag is today's
+
+unfoldable pub tree : List ℕ → Result (Frag ℕ)
+tree s = read content itself s
+
+abbrev pub check-answer : List ℕ → Result ℕ
+check-answer s = check-answer-by tree s
+
+abbrev pub laid-out : (w : ℕ) → List ℕ → Result (Frag ℕ)
+laid-out w s = laid-out-by tree w s
+
+abbrev pub layout-outcome : (w : ℕ) → List ℕ → Result ℕ × List ℕ
+layout-outcome w s = layout-outcome-by tree w s
+
+abbrev pub plain-text : List ℕ → Result (List ℕ)
+plain-text s = plain-text-by tree s
+
+abbrev pub body-text : List ℕ → Result (List ℕ)
+body-text s = body-text-by tree s
+
+abbrev pub document-text : List ℕ → Result (List ℕ)
+document-text s = document-text-by tree s
+
+abbrev pub plain-outcome : (s page : List ℕ) → Result ℕ × List ℕ
+plain-outcome s page = plain-outcome-by tree s page
+
+abbrev pub body-outcome : (s page : List ℕ) → Result ℕ × List ℕ
+body-outcome s page = body-outcome-by tree s page
+
+abbrev pub document-outcome : (s page : List ℕ) → Result ℕ × List ℕ
+document-outcome s page = document-outcome-by tree s page
 
 -- ---- an answer as one number, for callers in C: 256 times its count or place, and the refusal's number, or 0 where it is accepted
 

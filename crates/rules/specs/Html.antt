@@ -42,8 +42,14 @@ size-css (some size) script =
 unfoldable pub script : Styles → Bool
 script s = s .subscript || s .superscript
 
+unfoldable pub underline-css : Bool → List ℕ
+underline-css underline = if underline then ascii "text-decoration:underline;" else []
+
 unfoldable pub css : Styles → List ℕ
-css s = join (colour-css (s .colour) (s .opacity) ∷ weight-css (s .thickness) ∷ size-css (effective s) (script s) ∷ [])
+css s =
+    join
+    (colour-css (s .colour) (s .opacity) ∷ weight-css (s .thickness) ∷ size-css (effective s) (script s)
+    ∷ underline-css (s .underline) ∷ [])
 
 -- sub, sup or else span
 unfoldable pub tag-name : Styles → List ℕ

@@ -18,6 +18,7 @@ pub mod Values
 pub mod Sizes
 pub mod Html
 pub mod Answers
+pub mod Earlier
 pub mod Mask
 pub mod Alike
 pub mod SameWords

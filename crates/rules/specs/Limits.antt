@@ -37,4 +37,4 @@ abbrev pub first-style : ℕ
 first-style = 32
 
 abbrev pub last-style : ℕ
-last-style = 38
+last-style = 39

@@ -5,10 +5,11 @@ use mathlib.Core.Bool.{Bool, true, false}
 use Prim.Native.Nat.{ℕ}
 use lib.Dec.{eqb}
 use lib.IntN.{ℤ}
+use Rattle.rules.specs.Limits.{last-style}
 use Rattle.rules.specs.Bytes.{if_then_else_, has, number}
 use Rattle.rules.specs.Digits.{signed}
 use Rattle.rules.specs.Result.{Result, accepted, _>>=_}
-use Rattle.rules.specs.Walk.{Fields, end, bytes, inside, tags, Content, check}
+use Rattle.rules.specs.Walk.{Fields, end, bytes, inside, tags, Content, check-to}
 
 -- what the fields of a 16 say: three bytes of colour, the opacity's float bits, signed bytes for thickness and size
 pub record Styles : Type 0 where
@@ -19,6 +20,7 @@ pub record Styles : Type 0 where
   pub subscript : Bool
   pub superscript : Bool
   pub dim : Bool
+  pub underline : Bool
 
 -- a text, with the fields of its 16 where it has one
 pub record Run (X : Type 0) : Type 0 where
@@ -83,6 +85,7 @@ styles-of i = record {
   subscript = has 36 (tags i);
   superscript = has 37 (tags i);
   dim = has 38 (tags i);
+  underline = has 39 (tags i);
 }
 
 module _ {X : Type 0} (byte : X → ℕ) where
@@ -115,7 +118,10 @@ module _ {X : Type 0} (byte : X → ℕ) where
     frags-of (inside t i r) = frag (frag-of i) (frags-of r)
 
 -- an accepted file's tree, or the refusal
-unfoldable pub read : Content → {X : Type 0} → (X → ℕ) → List X → Result (Frag X)
-read asked byte s = do
-  i ← check asked byte s
+unfoldable pub read-to : (last : ℕ) → Content → {X : Type 0} → (X → ℕ) → List X → Result (Frag X)
+read-to last asked byte s = do
+  i ← check-to last asked byte s
   accepted (frag-of byte i)
+
+abbrev pub read : Content → {X : Type 0} → (X → ℕ) → List X → Result (Frag X)
+read asked byte s = read-to last-style asked byte s

@@ -27,18 +27,22 @@ holds t =
     if eqb t 16 then some in-styles else
     none
 
--- the tag t is allowed there, after the tag before (0 where it is the first)
-unfoldable pub allowed : Holder → (before : ℕ) → ℕ → Bool
-allowed in-fragment before t = within 1 7 t
-allowed in-block before t = eqb t 8
-allowed in-text before t = (eqb before 0 && eqb t 16) || (leb before 16 && eqb t 17)
-allowed in-anchor before t = if eqb before 0 then eqb t 18 || eqb t 19 else eqb t 1
-allowed in-styles before t = within first-style last-style t && ltb before t
+-- the tag t is allowed there, after the tag before (0 where it is the first). The last tag of a style is open here and in the walk, so that the rules
+-- before a new one are the same definitions (`Earlier`)
+unfoldable pub allowed-to : (last : ℕ) → Holder → (before : ℕ) → ℕ → Bool
+allowed-to last in-fragment before t = within 1 7 t
+allowed-to last in-block before t = eqb t 8
+allowed-to last in-text before t = (eqb before 0 && eqb t 16) || (leb before 16 && eqb t 17)
+allowed-to last in-anchor before t = if eqb before 0 then eqb t 18 || eqb t 19 else eqb t 1
+allowed-to last in-styles before t = within first-style last t && ltb before t
+
+abbrev pub allowed : Holder → (before : ℕ) → ℕ → Bool
+allowed h before t = allowed-to last-style h before t
 
 -- the length n is right for the tag: fixed lengths
 unfoldable pub right-length : ℕ → ℕ → Bool
 right-length t n =
-    if eqb t 5 || eqb t 6 || within 36 38 t then eqb n 0 else
+    if eqb t 5 || eqb t 6 || within 36 last-style t then eqb n 0 else
     if eqb t 32 then eqb n 3 else
     if eqb t 33 then eqb n 4 else
     if eqb t 34 || eqb t 35 then eqb n 1 else
@@ -115,16 +119,16 @@ pub record Field (X : Type 0) : Type 0 where
   pub value : List X
   pub rest : List X
 
-module _ {X : Type 0} (byte : X → ℕ) where
+module _ (last : ℕ) {X : Type 0} (byte : X → ℕ) where
   -- the field at the front of x ∷ s, at the place p, in the holder h, inside d blocks, after the tag before: three bytes there, tag, length fits, fixed
   -- length, depth
-  unfoldable pub front : Holder → (d before p : ℕ) → X → List X → Result (Field X)
-  front h d before p x s =
+  unfoldable pub front-to : Holder → (d before p : ℕ) → X → List X → Result (Field X)
+  front-to h d before p x s =
       let t : ℕ = byte x in
       let n : ℕ = number (map byte (take 2 s)) in
       do
         need (leb 2 (length s)) 3 p
-        need (allowed h before t) 4 p
+        need (allowed-to last h before t) 4 p
         need (leb n (length s - 2)) 3 p
         need (right-length t n) 5 p
         need (not (is-block t && leb most-blocks d)) 6 p
@@ -141,19 +145,30 @@ module _ (asked : Content) {X : Type 0} (byte : X → ℕ) where
     sound (complete h (tags i)) p
     accepted (of-fields i)
 
+module _ (last : ℕ) (asked : Content) {X : Type 0} (byte : X → ℕ) where
   -- the fields s in the holder h, inside d blocks, from the place p on, after the tag before. k is fuel, as many fields as
   -- there are bytes: where it is used up no byte is left, since more of it changes nothing (`Fuel.enough`)
-  unfoldable pub walk : ℕ → Holder → (d before p : ℕ) → List X → Result (Fields X)
-  walk zero h d before p s = accepted end
-  walk (suc k) h d before p [] = accepted end
-  walk (suc k) h d before p (x ∷ s) = do
-    f ← front byte h d before p x s
-    v ← valued (holds (f .tag)) (f .tag) p (f .value) (λ h′. walk k h′ (if is-block (f .tag) then suc d else d) 0 (p + 3) (f .value))
-    r ← walk k h d (f .tag) (p + (3 + length (f .value))) (f .rest)
+  unfoldable pub walk-to : ℕ → Holder → (d before p : ℕ) → List X → Result (Fields X)
+  walk-to zero h d before p s = accepted end
+  walk-to (suc k) h d before p [] = accepted end
+  walk-to (suc k) h d before p (x ∷ s) = do
+    f ← front-to last byte h d before p x s
+    v ← valued asked byte (holds (f .tag)) (f .tag) p (f .value) (λ h′. walk-to k h′ (if is-block (f .tag) then suc d else d) 0 (p + 3) (f .value))
+    r ← walk-to k h d (f .tag) (p + (3 + length (f .value))) (f .rest)
     accepted (put (f .tag) v r)
 
   -- the file check: its length, then the walk
-  unfoldable pub check : List X → Result (Fields X)
-  check s = do
+  unfoldable pub check-to : List X → Result (Fields X)
+  check-to s = do
     need (leb (length s) most-bytes) 1 0
-    walk (length s) in-fragment 0 0 0 s
+    walk-to (length s) in-fragment 0 0 0 s
+
+-- with the style's last tag
+abbrev pub front : {X : Type 0} → (X → ℕ) → Holder → (d before p : ℕ) → X → List X → Result (Field X)
+front byte h d before p x s = front-to last-style byte h d before p x s
+
+abbrev pub walk : Content → {X : Type 0} → (X → ℕ) → ℕ → Holder → (d before p : ℕ) → List X → Result (Fields X)
+walk asked byte k h d before p s = walk-to last-style asked byte k h d before p s
+
+abbrev pub check : Content → {X : Type 0} → (X → ℕ) → List X → Result (Fields X)
+check asked byte s = check-to last-style asked byte s

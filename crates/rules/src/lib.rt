@@ -27,7 +27,7 @@ pub const INDENTATION: u16 = 20;
 // The tags of a style's fields.
 pub const FIRST_STYLE: u8 = 32;
 
-pub const LAST_STYLE: u8 = 38;
+pub const LAST_STYLE: u8 = 39;
 
 // Why a file, a width or a page buffer is refused: a case for each of document 01's numbers, in their order, with the place where it is not 0.
 pub enum Refusal {

@@ -3,7 +3,7 @@ use Rattle.rules.proofs.Basics.{_≡_, refl, List, [], _∷_, _++_, Option, non
 use Rattle.rules.specs.Limits.{first-style, last-style}
 use Rattle.rules.specs.Bytes.{within}
 use Rattle.rules.specs.Result.{Check, _or-refuse_}
-use Rattle.rules.specs.Walk.{Fields, end, bytes, inside, Holder, in-styles, in-text, content, text-content, complete, tags, holds, allowed}
+use Rattle.rules.specs.Walk.{Fields, end, bytes, inside, Holder, in-styles, in-text, content, text-content, complete, tags, holds, allowed, allowed-to}
 use Rattle.rules.specs.Tree.{Run}
 use Rattle.rules.specs.Encode.{run-fields}
 use Rattle.rules.specs.Good.{AllHold, Good}
@@ -27,7 +27,7 @@ Tested r = Formed-style (r .style) × AllHold (run-checks r)
 
 -- the fields of a style are bytes
 style-tag : (before t : ℕ) → allowed in-styles before t ≡ true → holds t ≡ none
-unfolding allowed holds
+unfolding allowed-to holds
 style-tag before t h =
     let w : within first-style last-style t ≡ true = and-eq-true-iff (within first-style last-style t) (ltb before t) .0 h .0 in
     let l : first-style ≤ t = leb-true first-style t (and-eq-true-iff (leb first-style t) (leb t last-style) .0 w .0) in

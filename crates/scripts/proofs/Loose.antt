@@ -2,7 +2,7 @@
 use Rattle.rules.proofs.Basics.{_≡_, refl, _∙_, List, [], _∷_, _++_, Option, none, some, Bool, true, false, _&&_, or-true, not-true, ℕ, suc, _<_, arith, leb, eqb, length, ne-eqb}
 use Rattle.rules.specs.Limits.{most-blocks}
 use Rattle.rules.specs.Bytes.{has}
-use Rattle.rules.specs.Walk.{Fields, end, bytes, inside, Holder, in-styles, in-text, in-anchor, in-block, in-fragment, content, text-content, anchor-content, complete, tags, holds, allowed, right-length, is-block}
+use Rattle.rules.specs.Walk.{Fields, end, bytes, inside, Holder, in-styles, in-text, in-anchor, in-block, in-fragment, content, text-content, anchor-content, complete, tags, holds, allowed, allowed-to, right-length, is-block}
 use Rattle.rules.specs.Tree.{Run, Leaf, text, anchor, space, force, if-block, Kind, indented, flexible, Frag, stop, leaf, block, Frags, none-left, frag}
 use Rattle.rules.specs.Encode.{encode-fields, frag-fields, frags-fields, leaf-fields, run-fields, runs-fields, block-tag, anchor-tag}
 use Rattle.rules.specs.Good.{depth-in, AllHold, Good}
@@ -49,7 +49,7 @@ unordered h e (inside t i r) d b c (p, q, g) = ((e c b t ∙ p .0, p .1, p .2), 
 
 nodes-append : (f g : Frag ℕ) (d b : ℕ) → Loose in-fragment d b (frag-fields f) → Loose in-fragment d 0 (frag-fields g)
     → Loose in-fragment d b (frag-fields (f ⧺ g))
-unfolding frag-fields leaf-fields _⧺_ allowed
+unfolding frag-fields leaf-fields _⧺_ allowed-to
 nodes-append stop g d b u v = unordered in-fragment (λ b c t. refl) (frag-fields g) d 0 b v
 nodes-append (leaf (text r) f) g d b (p, i, u) v = (p, i, nodes-append f g d 1 u v)
 nodes-append (leaf (anchor k a rs) f) g d b (p, i, u) v = (p, i, nodes-append f g d 2 u v)
@@ -81,7 +81,7 @@ unfolding frags-fields
 done-none = record { loose = tt }
 
 pub done-frag : {d : ℕ} {f : Frag ℕ} {fs : Frags ℕ} → Done d f → BlockDone d fs → BlockDone d (frag f fs)
-unfolding frags-fields holds allowed right-length is-block complete
+unfolding frags-fields holds allowed-to right-length is-block complete
 done-frag {d} {f} {fs} u v =
     record { loose = ((refl, refl, refl), (in-fragment, refl, tt, u .loose), unordered in-block (λ b c t. refl) (frags-fields fs) d 0 8 (v .loose)) }
 
@@ -101,7 +101,7 @@ style-loose (inside t i r) d b o c = absurd o
 
 run-loose : (s : Option (Fields ℕ)) (v : List ℕ) (d : ℕ) → Tested (record { style = s; chars = v })
     → AllHold (complete in-text (tags (run-fields s v))) × Loose in-text d 0 (run-fields s v)
-unfolding run-fields run-checks style-checks holds allowed right-length is-block content complete tags has
+unfolding run-fields run-checks style-checks holds allowed-to right-length is-block content complete tags has
 run-loose none v d (o, c) = ((refl, tt), ((refl, refl, refl), refl, c, tt))
 run-loose (some i) v d (o, c) =
     let (e, f) = all-split (style-checks (some i)) (text-content v) c in
@@ -116,7 +116,7 @@ run-inside r d x = let (c, g) = run-loose (r .style) (r .chars) d x in (in-text,
 -- ---- nodes
 
 pub done-text : {r : Run ℕ} {d : ℕ} → Tested r → Done d (leaf (text r) stop)
-unfolding frag-fields leaf-fields allowed right-length is-block
+unfolding frag-fields leaf-fields allowed-to right-length is-block
 done-text {r} {d} x = record { loose = ((refl, refl, refl), run-inside r d x, tt) }
 
 abbrev pub AllTested : List (Run ℕ) → Type 0
@@ -129,12 +129,12 @@ all-tested (y ∷ rs) r h x = (h .0, all-tested rs r (h .1) x)
 
 -- behind a name or a text
 runs-loose : (rs : List (Run ℕ)) (d b : ℕ) → eqb b 0 ≡ false → AllTested rs → Loose in-anchor d b (runs-fields rs)
-unfolding runs-fields allowed right-length is-block
+unfolding runs-fields allowed-to right-length is-block
 runs-loose [] d b e h = tt
 runs-loose (r ∷ rs) d b e h = ((rw e, refl, refl), run-inside r d (h .0), runs-loose rs d 1 refl (h .1))
 
 pub done-anchor : {k : Bool} {v : List ℕ} {rs : List (Run ℕ)} {d : ℕ} → AllHold (anchor-content v) → AllTested rs → Done d (leaf (anchor k v rs) stop)
-unfolding frag-fields leaf-fields holds allowed right-length is-block complete tags has anchor-tag content
+unfolding frag-fields leaf-fields holds allowed-to right-length is-block complete tags has anchor-tag content
 done-anchor {k = true} {rs = rs} {d} c h =
     record { loose = ((refl, refl, refl), (in-anchor, refl, (refl, tt), ((refl, refl, refl), refl, c, runs-loose rs d 18 refl h)), tt) }
 done-anchor {k = false} {rs = rs} {d} c h =
@@ -142,18 +142,18 @@ done-anchor {k = false} {rs = rs} {d} c h =
     record { loose = ((refl, refl, refl), (in-anchor, refl, (named, tt), ((refl, refl, refl), refl, c, runs-loose rs d 19 refl h)), tt) }
 
 pub done-space : {d : ℕ} → Done d (leaf space stop)
-unfolding frag-fields leaf-fields holds allowed right-length is-block content
+unfolding frag-fields leaf-fields holds allowed-to right-length is-block content
 done-space = record { loose = ((refl, refl, refl), refl, tt, tt) }
 
 pub done-force : {d : ℕ} → Done d (leaf force stop)
-unfolding frag-fields leaf-fields holds allowed right-length is-block content
+unfolding frag-fields leaf-fields holds allowed-to right-length is-block content
 done-force = record { loose = ((refl, refl, refl), refl, tt, tt) }
 
 pub done-conditional : {v : List ℕ} {d : ℕ} → AllHold (text-content v) → Done d (leaf (if-block v) stop)
-unfolding frag-fields leaf-fields holds allowed right-length is-block content
+unfolding frag-fields leaf-fields holds allowed-to right-length is-block content
 done-conditional c = record { loose = ((refl, refl, refl), refl, c, tt) }
 
 pub done-block : {k : Kind} {fs : Frags ℕ} {d : ℕ} → AllHold (depth-checks d) → BlockDone (suc d) fs → Done d (block k fs stop)
-unfolding frag-fields block-tag holds allowed right-length is-block complete depth-checks
+unfolding frag-fields block-tag holds allowed-to right-length is-block complete depth-checks
 done-block {k = indented} c g = record { loose = ((refl, refl, not-true _ (c .0)), (in-block, refl, tt, g .loose), tt) }
 done-block {k = flexible} c g = record { loose = ((refl, refl, not-true _ (c .0)), (in-block, refl, tt, g .loose), tt) }

@@ -2,7 +2,7 @@
 use Rattle.rules.proofs.Basics.{_≡_, refl, sym, ap, _∙_, List, [], _++_, append-assoc, Option, none, some, Option·map, Bool, true, false, _&&_, _||_, and-eq-true-iff, or-false, ℕ, zero, suc, _+_, _≤_, _<_, arith, leb, ltb, eqb, length, length-append, leb-true, ltb-true, eqb-true, ne-eqb, lt-leb}
 use mathlib.Core.Bool.{or-assoc, or-comm}
 use Rattle.rules.specs.Bytes.{if_then_else_, within, has, number}
-use Rattle.rules.specs.Walk.{Fields, end, bytes, inside, Holder, in-styles, allowed, holds, content, right-length, right-opacity, right-size, tags}
+use Rattle.rules.specs.Walk.{Fields, end, bytes, inside, Holder, in-styles, allowed, allowed-to, holds, content, right-length, right-opacity, right-size, tags}
 use Rattle.rules.specs.Tree.{Styles, bytes-of, signed-byte, styles-of}
 use Rattle.rules.specs.Encode.{field, encode-fields}
 use Rattle.rules.specs.Good.{AllHold, Good}
@@ -18,7 +18,7 @@ record Right (before t : ℕ) : Type 0 where
   rising : before < t
 
 right-tag : (before t : ℕ) → allowed in-styles before t ≡ true → Right before t
-unfolding allowed
+unfolding allowed-to
 right-tag before t e =
     let (w, l) = and-eq-true-iff (within 32 38 t) (ltb before t) .0 e in
     record { low = leb-true 32 t (and-eq-true-iff (leb 32 t) (leb t 38) .0 w .0); rising = ltb-true before t l }

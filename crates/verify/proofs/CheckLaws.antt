@@ -3,9 +3,9 @@ use Rattle.rules.proofs.Basics.{_≡_, refl, sym, _∙_, ap, List, [], ℕ, _/_
 use lib.Seq.{slice, take-length}
 use Rattle.rules.specs.Limits.{most-bytes}
 use Rattle.rules.specs.Result.{Result, refused, accepted, _>>=_, _>>_, need, sound}
-use Rattle.rules.specs.Walk.{Fields, in-fragment, content, walk, check, complete, tags}
-use Rattle.rules.specs.Tree.{Frag, read, frag-of}
-use Rattle.rules.specs.Answers.{itself, tree, check-answer}
+use Rattle.rules.specs.Walk.{Fields, in-fragment, content, walk, check, check-to, complete, tags}
+use Rattle.rules.specs.Tree.{Frag, read-to, frag-of}
+use Rattle.rules.specs.Answers.{itself, tree, check-answer, check-answer-by}
 use Rattle.rules.proofs.Chains.{no-path}
 use Rattle.rules.proofs.Refused.{Refusable, too-long, at-fault, refused-place, Fault}
 use Rattle.verify.specs.Said.{verdict}
@@ -18,7 +18,7 @@ counted (refused n p) = refused n p
 counted (accepted tt) = accepted 0
 
 pub long-file : (s : List ℕ) → most-bytes < length s → refused 1 0 ≡ check-answer s
-unfolding check-answer tree read check need _>>_ _>>=_
+unfolding check-answer-by tree read-to check-to need _>>_ _>>=_
 long-file s h = simp (lt-leb (length s) most-bytes h)
 
 by-walk : (r : Result (Fields ℕ)) → ((r >>= λ i. accepted (frag-of itself i)) >>= λ t. accepted 0) ≡ counted (r >>= λ i. sound (complete in-fragment (tags i)) 0)
@@ -27,7 +27,7 @@ by-walk (refused n p) = refl
 by-walk (accepted i) = refl
 
 in-time : (s : List ℕ) → length s ≤ most-bytes → check-answer s ≡ counted (rest-result in-fragment [] 0 0 0 0 s)
-unfolding check-answer tree read check need _>>_ rest-result
+unfolding check-answer-by tree read-to check-to need _>>_ rest-result
 in-time s h = simp (le-leb (length s) most-bytes h) (by-walk (walk content itself (length s) in-fragment 0 0 0 s))
 
 module _ (s : List ℕ) (h : length s ≤ most-bytes) (r : ℕ) (F : RestSaid in-fragment [] 0 0 0 0 (slice 0 (length s) s) (verdict r)) where
@@ -44,7 +44,7 @@ module _ (s : List ℕ) (h : length s ≤ most-bytes) (r : ℕ) (F : RestSaid in
     faulty-file = sym (ap counted (as-refused r n)) ∙ by-check
 
     pub faulty-number : Fault (r % 256)
-    unfolding check-answer _>>=_
+    unfolding check-answer-by _>>=_
     faulty-number = go (tree s) refl
       where
         among : {m p : ℕ} → Refusable s m p → Fault m

@@ -3,7 +3,7 @@ use Rattle.rules.proofs.Basics.{_≡_, refl, sym, _∙_, ap, List, [], _∷_, m
 use Rattle.rules.specs.Limits.{most-blocks}
 use Rattle.rules.specs.Bytes.{number}
 use Rattle.rules.specs.Result.{Result, refused, accepted, _>>_, need}
-use Rattle.rules.specs.Walk.{Holder, Field, front, allowed, right-length, is-block}
+use Rattle.rules.specs.Walk.{Holder, Field, front, front-to, allowed, right-length, is-block}
 use Rattle.rules.specs.Answers.{itself}
 use Rattle.rules.proofs.Accepted.{number-two}
 use Rattle.rules.proofs.Chains.{no-path, need-inv}
@@ -97,7 +97,7 @@ module _ (s : List ℕ) (at : ℕ) (h : Holder) (d before p : ℕ) where
   -- WHAT THE TESTS SAY IS WHAT THE RULES SAY, by whether three bytes are there
   pub front-by : (x : Bool) → leb (at + 3) (length s) ≡ x → at < length s
       → front-of h d before p (drop at s) ≡ (front-answer x (leb (at + 3 + length-at s at) (length s)) (allowed h before (getD s at 0)) p >> After s at d p)
-  unfolding front-of front need _>>_ front-answer
+  unfolding front-of front-to need _>>_ front-answer
   front-by false e l =
       let n : leb 2 (length (drop (suc at) s)) ≡ false = lt-leb 2 (length (drop (suc at) s)) (omega (arith, length-drop (suc at) s, leb-false (at + 3) (length s) e)) in
       rw (drop-cons s at 0 l, n)

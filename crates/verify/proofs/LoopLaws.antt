@@ -2,7 +2,7 @@
 use Rattle.rules.proofs.Basics.{_≡_, refl, List, [], _∷_, _++_, Bool, true, false, ℕ, _+_, _≤_, _<_, leb, eqb, getD, take}
 use lib.Seq.{slice}
 use Rattle.rules.specs.Result.{Result, refused, accepted, sound}
-use Rattle.rules.specs.Walk.{Holder, in-fragment, in-block, complete, allowed}
+use Rattle.rules.specs.Walk.{Holder, in-fragment, in-block, complete, allowed, allowed-to}
 use Rattle.fields.specs.FieldAt.{field-at}
 use Rattle.fields.specs.declared.Field.{Field}
 use Rattle.fields.proofs.Laws.{NotWhole}
@@ -55,11 +55,11 @@ module _ {K : ℕ → List ℕ → Type 0} {h : Holder} {d : ℕ} {s : List ℕ}
 -- ---- nodes and fragments, which ask neither which tag came before nor which there are
 
 pub piece-next : (before t : ℕ) → eqb t 8 ≡ allowed in-block before t
-unfolding allowed
+unfolding allowed-to
 piece-next before t = refl
 
 pub node-next : (before t : ℕ) → allowed in-fragment 0 t ≡ allowed in-fragment before t
-unfolding allowed
+unfolding allowed-to
 node-next before t = refl
 
 pub nothing-asked : (h : Holder) (ts : List ℕ) (p : ℕ) {x : Result (Unit {0})} → complete h ts ≡ [] → x ≡ accepted tt → x ≡ sound (complete h ts) p

@@ -2,7 +2,7 @@
 use Rattle.rules.proofs.Basics.{_≡_, refl, sym, _∙_, ap, List, [], _∷_, _++_, Bool, true, false, _&&_, _||_, not, or-true, ℕ, _<_, arith, eqb, getD, ne-eqb, eqb-true, eqb-false}
 use Rattle.rules.specs.Bytes.{has}
 use Rattle.rules.specs.Result.{Result, refused, accepted, _>>_, need, Check, _or-refuse_, sound}
-use Rattle.rules.specs.Walk.{in-text, in-anchor, in-styles, complete, allowed}
+use Rattle.rules.specs.Walk.{in-text, in-anchor, in-styles, complete, allowed, allowed-to}
 use Rattle.verify.specs.declared.seen.Seen.{Seen}
 use Rattle.verify.specs.Seeing.{nothing-seen, seen-with, complete-seen}
 use Rattle.verify.specs.Walked.{TextLeft, Named}
@@ -85,19 +85,19 @@ seen-all p S e = e ∙ ap (λ (cs : List Check). sound cs p) (sees-all (S .sees)
 -- ---- a text: an optional 16, then one 17
 
 pub no-style : {s : List ℕ} {at end : ℕ} → (at < end → getD s at 0 ≡ 16 → ⊥) → TextLeft 0 [] s at end
-unfolding has allowed
+unfolding has allowed-to
 no-style {s} {at} n = record { none-yet = refl; one-wanted = λ l. simp (ne-eqb (getD s at 0) 16 (n l)) }
 
 pub a-style : (s : List ℕ) (at end : ℕ) → TextLeft 16 ([] ++ (16 ∷ [])) s at end
-unfolding has allowed
+unfolding has allowed-to
 a-style s at end = record { none-yet = refl; one-wanted = λ l. refl }
 
 pub first-style-allowed : allowed in-text 0 16 ≡ true
-unfolding allowed
+unfolding allowed-to
 first-style-allowed = refl
 
 pub nothing-more : (t : ℕ) → allowed in-text 17 t ≡ false
-unfolding allowed
+unfolding allowed-to
 nothing-more t = refl
 
 pub no-text : (ts : List ℕ) (p : ℕ) {x : Result (Unit {0})} → has 17 ts ≡ false → x ≡ refused 5 p → x ≡ sound (complete in-text ts) p

@@ -2,7 +2,7 @@
 use Rattle.rules.proofs.Basics.{_≡_, refl, sym, _∙_, Bool, true, false, _&&_, _||_, ℕ, _≤_, _<_, arith, leb, ltb, eqb, le-leb, lt-leb, ne-eqb, eq-eqb, leb-true, eqb-true, eqb-false}
 use Rattle.rules.specs.Limits.{first-style, last-style}
 use Rattle.rules.specs.Bytes.{if_then_else_, within}
-use Rattle.rules.specs.Walk.{Holder, allowed, right-length, is-block, in-fragment, in-anchor, in-styles}
+use Rattle.rules.specs.Walk.{Holder, allowed, allowed-to, right-length, is-block, in-fragment, in-anchor, in-styles}
 use Rattle.rules.proofs.Chains.{no-path}
 
 module _ (t : ℕ) where
@@ -11,37 +11,37 @@ module _ (t : ℕ) where
   other-block a = simp (ne-eqb t 3 a)
 
   pub fragment-low : t < 1 → false ≡ allowed in-fragment 0 t
-  unfolding allowed
+  unfolding allowed-to
   fragment-low h = simp (lt-leb 1 t h)
 
   pub fragment-high : 1 ≤ t → leb t 7 ≡ allowed in-fragment 0 t
-  unfolding allowed
+  unfolding allowed-to
   fragment-high h = simp (le-leb 1 t h)
 
   -- an anchor and a 16, after the tag before
   module _ (before : ℕ) where
     pub anchor-later : (before ≡ 0 → ⊥) → eqb t 1 ≡ allowed in-anchor before t
-    unfolding allowed
+    unfolding allowed-to
     anchor-later a = simp (ne-eqb before 0 a)
 
     pub anchor-18 : before ≡ 0 → t ≡ 18 → true ≡ allowed in-anchor before t
-    unfolding allowed
+    unfolding allowed-to
     anchor-18 a e = simp (eq-eqb before 0 a, eq-eqb t 18 e)
 
     pub anchor-19 : before ≡ 0 → (t ≡ 18 → ⊥) → eqb t 19 ≡ allowed in-anchor before t
-    unfolding allowed
+    unfolding allowed-to
     anchor-19 a e = simp (eq-eqb before 0 a, ne-eqb t 18 e)
 
     pub styles-low : t < first-style → false ≡ allowed in-styles before t
-    unfolding allowed
+    unfolding allowed-to
     styles-low h = simp (lt-leb first-style t h)
 
     pub styles-high : last-style < t → false ≡ allowed in-styles before t
-    unfolding allowed
+    unfolding allowed-to
     styles-high h = simp (le-leb first-style t (omega arith), lt-leb t last-style h)
 
     pub styles-rise : first-style ≤ t → t ≤ last-style → ltb before t ≡ allowed in-styles before t
-    unfolding allowed
+    unfolding allowed-to
     styles-rise h g = simp (le-leb first-style t h, le-leb t last-style g)
 
   -- fixed lengths of a style's fields
@@ -81,11 +81,11 @@ both-hold false b e = never (sym e)
 
 module _ {before t : ℕ} where
   pub fragment-tags : Allowed in-fragment before t → (1 ≤ t) × (t ≤ 7)
-  unfolding allowed
+  unfolding allowed-to
   fragment-tags A = let (a, b) = both-hold (leb 1 t) (leb t 7) (A .yes) in (leb-true 1 t a, leb-true t 7 b)
 
   pub styles-tags : Allowed in-styles before t → (first-style ≤ t) × (t ≤ last-style)
-  unfolding allowed
+  unfolding allowed-to
   styles-tags A =
       let (w, r) = both-hold (within first-style last-style t) (ltb before t) (A .yes) in
       let (a, b) = both-hold (leb first-style t) (leb t last-style) w in

@@ -7,7 +7,7 @@ use Rattle.rules.specs.declared.Answer.the-variants.{Done, Refused}
 use Rattle.rules.specs.Result.{Result, refused, accepted, _>>=_, refusal, said}
 use Rattle.rules.specs.Tree.{Frag}
 use Rattle.rules.specs.Good.{Bytes}
-use Rattle.rules.specs.Answers.{tree, check-answer}
+use Rattle.rules.specs.Answers.{tree, check-answer, check-answer-by}
 use Rattle.rules.proofs.Chains.{no-path}
 use Rattle.rules.proofs.Files.{Read, tree-read}
 
@@ -41,7 +41,7 @@ pub record RefusedSo (s : List ℕ) (x : Result ℕ) : Type 0 where
   pub says : x ≡ refused number place
 
 pub refused-so : (s : List ℕ) (a : Answer) {r : Refusal} → a ≡ Refused r → said a ≡ check-answer s → RefusedSo s (said a)
-unfolding check-answer said _>>=_
+unfolding check-answer-by said _>>=_
 refused-so s a {r} q e = go (tree s) refl
   where
     go : (x : Result (Frag ℕ)) → tree s ≡ x → RefusedSo s (said a)
@@ -55,7 +55,7 @@ pub record AcceptedAs (s : List ℕ) : Type 0 where
   pub read : Read s root
 
 pub accepted-as : (s : List ℕ) (a : Answer) {n : ℕ} → Bytes s → a ≡ Done n → said a ≡ check-answer s → AcceptedAs s
-unfolding check-answer said _>>=_
+unfolding check-answer-by said _>>=_
 accepted-as s a {n} b q e = go (tree s) refl
   where
     go : (x : Result (Frag ℕ)) → tree s ≡ x → AcceptedAs s

@@ -2,7 +2,7 @@
 use Rattle.rules.proofs.Basics.{_≡_, refl, sym, _∙_, ap, List, [], _∷_, _++_, append-assoc, append-nil, Bool, true, false, _&&_, not, ℕ, zero, suc, _+_, _-_, _≤_, _<_, le-refl, arith, leb, length, getD, drop, length-drop, drop-of-length-le, drop-cons, leb-true}
 use Rattle.rules.specs.Limits.{most-blocks}
 use Rattle.rules.specs.Result.{Result, refused, accepted, _>>=_, _>>_, need, sound}
-use Rattle.rules.specs.Walk.{Holder, Fields, end, Field, Value, of-bytes, of-fields, put, front, content, walk, holds, complete, tags, allowed, right-length, is-block}
+use Rattle.rules.specs.Walk.{Holder, Fields, end, Field, Value, of-bytes, of-fields, put, front, content, walk, walk-to, holds, complete, tags, allowed, right-length, is-block}
 use Rattle.rules.specs.Good.{depth-in}
 use Rattle.rules.specs.Answers.{itself}
 use Rattle.rules.proofs.Fuel.{bind-cong, valued-cong, enough}
@@ -52,7 +52,7 @@ no-more ts = append-nil ts
 
 -- nothing is left
 walk-nothing : (k : ℕ) (h : Holder) (d before p : ℕ) → walk content itself k h d before p [] ≡ accepted end
-unfolding walk
+unfolding walk-to
 walk-nothing zero h d before p = refl
 walk-nothing (suc k) h d before p = refl
 
@@ -63,7 +63,7 @@ walk-turn : (s : List ℕ) (h : Holder) (d before p at k : ℕ) → at < length 
     → walk content itself (suc k) h d before p (drop at s)
     ≡ (front-of h d before p (drop at s) >>= λ f. content-result (f .tag) d p (f .value) >>= λ v.
     walk content itself k h d (f .tag) (p + (3 + length (f .value))) (f .rest) >>= λ r. accepted (put (f .tag) v r))
-unfolding walk front-of content-result
+unfolding walk-to front-of content-result
 walk-turn s h d before p at k l n =
     rw (drop-cons s at 0 l)
     (bind-cong (front itself h d before p (getD s at 0) (drop (suc at) s)) _ _ λ f ef.
