@@ -1,7 +1,7 @@
 -- The name of a style's tag, and its attributes.
 use Rattle.rules.proofs.Basics.{_≡_, refl, sym, subst, List, [], _∷_, append-assoc, append-nil, Bool, true, false, ℕ, T}
 use Rattle.rules.specs.Bytes.{if_then_else_, ascii, join}
-use Rattle.rules.specs.Html.{colour-css, weight-css, size-css, script, css, tag-name, attribute, open-tag}
+use Rattle.rules.specs.Html.{colour-css, weight-css, size-css, script, underline-css, css, tag-name, attribute, open-tag}
 use Rattle.rules.specs.Layout.{or-script, effective}
 use Rattle.styles.specs.declared.Styles.{Styles}
 use Rattle.styles.specs.Said.{flagged, said-styles}
@@ -47,6 +47,6 @@ no-class dim e = rw e
 -- ---- a colour alone
 
 pub coloured : (st : Styles) → st .«has_opacity» ≡ false → st .«has_thickness» ≡ false → st .«has_size» ≡ false → st .subscript ≡ false → st .superscript ≡ false
-    → st .dim ≡ false → st .«has_colour» ≡ true → open-tag (said-styles st) ≡ coloured-tag (st .colour)
-unfolding join ascii tag-name attribute colour-css weight-css size-css script css open-tag or-script effective said-styles flagged coloured-tag
-coloured st o t z b p d c = rw (o, t, z, b, p, d, c) (simp (append-assoc, append-nil))
+    → st .dim ≡ false → st .underline ≡ false → st .«has_colour» ≡ true → open-tag (said-styles st) ≡ coloured-tag (st .colour)
+unfolding join ascii tag-name attribute colour-css weight-css size-css script underline-css css open-tag or-script effective said-styles flagged coloured-tag
+coloured st o t z b p d u c = rw (o, t, z, b, p, d, u, c) (simp (append-assoc, append-nil))

@@ -126,6 +126,11 @@ examples w =
     ∷ case verdict "01000A 100004 23000175 110000" (accepted [])
     ∷ case verdict "01000A 100004 23000176 110000" (refused 8 6)
     ∷ case (laid 0) "040013 080010 01000D 100004 230001F6 110003616263" (leaves "040013 080010 01000D 100004 230001F6 110003616263")
+    -- underlined: the last item of a style, and no wider
+    ∷ case in-html "01000A 100003 270000 11000178" (writes "<pre class=\"spirt-90c2056d-5b38-4644-824a-b4be1c82f14d\">\n<span style=\"text-decoration:underline;\">x</span></pre>")
+    ∷ case in-html "010011 10000A 2300010A 260000 270000 11000178" (writes "<pre class=\"spirt-90c2056d-5b38-4644-824a-b4be1c82f14d\">\n<span style=\"font-size:2em;vertical-align:middle;text-decoration:underline;\" class=\"unchanged\">x</span></pre>")
+    ∷ case (laid 2) "040012 08000F 01000C 100003 270000 110003616263" (leaves "030012 08000F 01000C 100003 270000 110003616263")
+    ∷ case (laid 3) "040012 08000F 01000C 100003 270000 110003616263" (leaves "040012 08000F 01000C 100003 270000 110003616263")
     -- the others
     ∷ case (em-of (negsuc 1)) "" (writes "0.8")
     ∷ case (em-of (negsuc 8)) "" (writes "0.09999999999999998")

@@ -57,10 +57,14 @@ refusals =
     ∷ no file-check "020007 010004 11000161" 4 3
     ∷ no file-check "01000C 100006 240000 240000 110000" 4 9
     ∷ no file-check "01000C 100006 250000 240000 110000" 4 9
+    ∷ no file-check "01000C 100006 270000 270000 110000" 4 9
+    ∷ no file-check "01000C 100006 270000 260000 110000" 4 9
+    ∷ no file-check "010009 100003 280000 110000" 4 6
     ∷ no file-check "010006 110000 110000" 4 6
     -- 5: a fixed length; a 1 without 17, a 2 without 18 or 19
     ∷ no file-check "050001 00" 5 0
     ∷ no file-check "010009 100003 200000 110000" 5 6
+    ∷ no file-check "01000A 100004 270001 00 110000" 5 6
     ∷ no file-check "010000" 5 0
     ∷ no file-check "010003 100000" 5 0
     ∷ no file-check "020000" 5 0

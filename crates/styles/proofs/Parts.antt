@@ -22,12 +22,12 @@ pub either : {A : Type 0} {a : A} (b : Bool) → a ≡ (if b then a else a)
 either true = refl
 either false = refl
 
--- a tag that is none of 32 to 38
+-- a tag that is no style's
 pub other-tag : (t : ℕ)
-    → (t ≡ 32 → ⊥) → (t ≡ 33 → ⊥) → (t ≡ 34 → ⊥) → (t ≡ 35 → ⊥) → (t ≡ 36 → ⊥) → (t ≡ 37 → ⊥) → (t ≡ 38 → ⊥)
+    → (t ≡ 32 → ⊥) → (t ≡ 33 → ⊥) → (t ≡ 34 → ⊥) → (t ≡ 35 → ⊥) → (t ≡ 36 → ⊥) → (t ≡ 37 → ⊥) → (t ≡ 38 → ⊥) → (t ≡ 39 → ⊥)
     → (st : Styles) (v : List ℕ) → st ≡ with-field st t v
 unfolding with-field put-part
-other-tag t n32 n33 n34 n35 n36 n37 n38 st v =
+other-tag t n32 n33 n34 n35 n36 n37 n38 n39 st v =
     rw (
       ne-eqb 32 t (λ e. n32 (sym e)),
       ne-eqb 33 t (λ e. n33 (sym e)),
@@ -36,4 +36,5 @@ other-tag t n32 n33 n34 n35 n36 n37 n38 st v =
       ne-eqb 36 t (λ e. n36 (sym e)),
       ne-eqb 37 t (λ e. n37 (sym e)),
       ne-eqb 38 t (λ e. n38 (sym e)),
+      ne-eqb 39 t (λ e. n39 (sym e)),
     ) (either (right-value t v))

@@ -1,6 +1,7 @@
 -- The style read from the bytes of good fields is the one that the rules read from those fields.
 use Rattle.rules.proofs.Basics.{_≡_, refl, sym, ap, _∙_, List, [], _++_, append-assoc, Option, none, some, Option·map, Bool, true, false, _&&_, _||_, and-eq-true-iff, or-false, ℕ, zero, suc, _+_, _≤_, _<_, arith, leb, ltb, eqb, length, length-append, leb-true, ltb-true, eqb-true, ne-eqb, lt-leb}
 use mathlib.Core.Bool.{or-assoc, or-comm}
+use Rattle.rules.specs.Limits.{first-style, last-style}
 use Rattle.rules.specs.Bytes.{if_then_else_, within, has, number}
 use Rattle.rules.specs.Walk.{Fields, end, bytes, inside, Holder, in-styles, allowed, allowed-to, holds, content, right-length, right-opacity, right-size, tags}
 use Rattle.rules.specs.Tree.{Styles, bytes-of, signed-byte, styles-of}
@@ -20,8 +21,8 @@ record Right (before t : ℕ) : Type 0 where
 right-tag : (before t : ℕ) → allowed in-styles before t ≡ true → Right before t
 unfolding allowed-to
 right-tag before t e =
-    let (w, l) = and-eq-true-iff (within 32 38 t) (ltb before t) .0 e in
-    record { low = leb-true 32 t (and-eq-true-iff (leb 32 t) (leb t 38) .0 w .0); rising = ltb-true before t l }
+    let (w, l) = and-eq-true-iff (within first-style last-style t) (ltb before t) .0 e in
+    record { low = leb-true first-style t (and-eq-true-iff (leb first-style t) (leb t last-style) .0 w .0); rising = ltb-true before t l }
 
 -- its value is bytes
 no-fields : (t : ℕ) (h : Holder) → 32 ≤ t → holds t ≡ some h → ⊥
@@ -84,6 +85,7 @@ over st j = record {
   subscript = has 36 (tags j) || st .subscript;
   superscript = has 37 (tags j) || st .superscript;
   dim = has 38 (tags j) || st .dim;
+  underline = has 39 (tags j) || st .underline;
 }
 
 -- a part that a field put in stays, since its tag does not come again
@@ -113,6 +115,7 @@ put-over st d t v r G i = record {
   subscript = either-order (has 36 (tags r)) (eqb 36 t) (st .subscript) i;
   superscript = either-order (has 37 (tags r)) (eqb 37 t) (st .superscript) i;
   dim = either-order (has 38 (tags r)) (eqb 38 t) (st .dim) i;
+  underline = either-order (has 39 (tags r)) (eqb 39 t) (st .underline) i;
 }
 
 -- from a place behind some bytes
@@ -147,6 +150,7 @@ over-none j i = record {
   subscript = or-false (has 36 (tags j)) i;
   superscript = or-false (has 37 (tags j)) i;
   dim = or-false (has 38 (tags j)) i;
+  underline = or-false (has 39 (tags j)) i;
 }
 
 -- so all of them, into none

@@ -24,6 +24,7 @@ said-styles st = record {
   subscript = st .subscript;
   superscript = st .superscript;
   dim = st .dim;
+  underline = st .underline;
 }
 
 unfoldable pub is-there : {A : Type 0} → Option A → Bool

@@ -23,6 +23,7 @@ no-styles = record {
   subscript = false;
   superscript = false;
   dim = false;
+  underline = false;
 }
 
 -- a value that counts: its length is the tag's, and an opacity or a size is one that is allowed
@@ -42,6 +43,7 @@ put-part st t v = record {
   subscript = eqb 36 t || st .subscript;
   superscript = eqb 37 t || st .superscript;
   dim = eqb 38 t || st .dim;
+  underline = eqb 39 t || st .underline;
 }
 
 -- the same, where the value counts; any other field is passed over

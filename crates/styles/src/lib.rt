@@ -29,6 +29,7 @@ pub struct Styles {
     pub subscript: bool,
     pub superscript: bool,
     pub dim: bool,
+    pub underline: bool,
 }
 
 // The style of a 16 without fields.
@@ -47,6 +48,7 @@ pub fn none() -> Styles
         subscript: false,
         superscript: false,
         dim: false,
+        underline: false,
     }
 }
 
@@ -189,6 +191,18 @@ fn with_dim(st: Styles, v: &[u8]) -> Styles
     out
 }
 
+// A field 39 put in.
+fn with_underline(st: Styles, v: &[u8]) -> Styles
+    ensures { λ r. ⌜ said-styles r ≡ with-field (said-styles st) 39 (now (v .entry)) ⌝ }
+{
+    if v.len() != 0 {
+        return st;
+    }
+    let mut out = st;
+    out.underline = true;
+    out
+}
+
 // A field put in, by its tag; one with any other tag is passed over.
 fn with_field(st: Styles, tag: u8, v: &[u8]) -> Styles
     ensures { λ r. ⌜ said-styles r ≡ with-field (said-styles st) tag (now (v .entry)) ⌝ }
@@ -201,6 +215,7 @@ fn with_field(st: Styles, tag: u8, v: &[u8]) -> Styles
         36 => with_subscript(st, v),
         37 => with_superscript(st, v),
         38 => with_dim(st, v),
+        39 => with_underline(st, v),
         _ => st,
     }
 }

@@ -71,12 +71,13 @@ fn behind_size(s: &[u8], at: usize, stop: usize) -> usize
     at
 }
 
-// What is left of a 16: a 38, or nothing.
+// What is left of a 16: a 38, a 39, both or nothing.
 fn right_end(s: &[u8], at: usize, stop: usize) -> bool
     requires { ⌜ (at ≤ stop) × (stop < length (now s)) ⌝ }
     ensures { λ r. ⌜ Says r (RightFrom 37 (now (s .entry)) stop at) ⌝ }
 {
-    behind(s, at, stop, 38, 0) == stop
+    let dim = behind(s, at, stop, 38, 0);
+    behind(s, dim, stop, 39, 0) == stop
 }
 
 // What is left of a 16: a script at most, and what may stand behind it.

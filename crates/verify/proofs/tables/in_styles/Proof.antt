@@ -1,4 +1,4 @@
--- `verify::tables::in_styles` meets its contract: 32 to 38, rising.
+-- `verify::tables::in_styles` meets its contract: the style's tags, rising.
 use Rattle.verify.proofs.TagLaws.{styles-low, styles-high, styles-rise}
 use Rattle.verify.proofs.tables.in_styles.Statement.{statement}
 use Rattle.verify.proofs.tables.in_styles.Tie as tie
