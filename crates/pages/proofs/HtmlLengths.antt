@@ -48,15 +48,15 @@ escaped-most ampersand x = omega arith
 escaped-most less-than x = omega arith
 escaped-most as-it-is x = omega arith
 
-copied-most : (x : ℕ) → html-cost (char (copied x)) ≤ 144
+copied-most : (x : ℕ) → html-cost (char (copied x)) ≤ 170
 unfolding html-cost item-html
 copied-most x = omega (arith, escaped-most (escape x) x)
 
-push-most : (d before : ℕ) (j : Fields ℕ) → Good in-styles d before j → Bytes (encode-fields j) → html-cost (marked (push (styles-of j))) ≤ 144
+push-most : (d before : ℕ) (j : Fields ℕ) → Good in-styles d before j → Bytes (encode-fields j) → html-cost (marked (push (styles-of j))) ≤ 170
 unfolding html-cost item-html mark-html
 push-most d before j G z = omega (arith, length-makes (open-tag (styles-of j)), open-tag-most d before j G z)
 
-pop-most : (s : Styles) → html-cost (marked (pop s)) ≤ 144
+pop-most : (s : Styles) → html-cost (marked (pop s)) ≤ 170
 unfolding html-cost item-html mark-html
 pop-most s = omega (arith, length-makes (close-tag s), close-tag-most s)
 
@@ -65,21 +65,21 @@ unfolding id-attribute makes ascii
 id-most true a = omega (arith, length-append (copies a) (makes (ascii "\"")), length-copies a)
 id-most false a = omega arith
 
-open-most : (definition : Bool) (a : List ℕ) → html-cost (marked (open-anchor definition a)) ≤ 144 + 2 * length a
+open-most : (definition : Bool) (a : List ℕ) → html-cost (marked (open-anchor definition a)) ≤ 170 + 2 * length a
 unfolding html-cost item-html mark-html makes ascii
 open-most definition a =
     let link : List (Out ℕ) = makes (ascii " href=\"#") ++ (copies a ++ makes (ascii "\">")) in
     omega (arith, length-append (id-attribute definition a) link, length-append (copies a) (makes (ascii "\">")), id-most definition a, length-copies a)
 
-close-most : html-cost (marked close-anchor) ≤ 144
+close-most : html-cost (marked close-anchor) ≤ 170
 unfolding html-cost item-html mark-html makes ascii
 close-most = omega arith
 
--- THE ITEMS OF A PAGE COST AT MOST 210 BYTES OF HTML FOR EACH BYTE OF THE FILE
+-- THE ITEMS OF A PAGE COST AT MOST 236 BYTES OF HTML FOR EACH BYTE OF THE FILE
 items-most : (t : Frag ℕ) → GoodTree t → Bytes (encode t) → cost-all html-cost (items newline t) ≤ html-per-byte * length (encode t)
 unfolding pay
 items-most t G z =
-    omega (arith, items-paid html-cost 144 made-1 copied-most push-most (λ j. pop-most (styles-of j)) open-most close-most t G z)
+    omega (arith, items-paid html-cost 170 made-1 copied-most push-most (λ j. pop-most (styles-of j)) open-most close-most t G z)
 
 -- ---- the pages
 

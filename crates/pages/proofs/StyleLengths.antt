@@ -11,7 +11,7 @@ use Rattle.rules.specs.Tree.{Styles, bytes-of, signed-byte, styles-of}
 use Rattle.rules.specs.Encode.{encode-fields}
 use Rattle.rules.specs.Good.{Bytes, AllHold, Good}
 use Rattle.rules.specs.Layout.{or-script, effective}
-use Rattle.rules.specs.Html.{separated, colour-css, weight-css, size-css, script, css, tag-name, attribute, open-tag, close-tag}
+use Rattle.rules.specs.Html.{separated, colour-css, weight-css, size-css, script, underline-css, css, tag-name, attribute, open-tag, close-tag}
 use Rattle.rules.proofs.EmSizes.{AcceptedSize}
 use Rattle.rules.proofs.Open.{all-open}
 use Rattle.rules.proofs.SoundFields.{bytes-inside, bytes-here}
@@ -167,16 +167,22 @@ size-most (some v) script O =
 
 -- ---- the tags
 
-css-most : (d before : ℕ) (j : Fields ℕ) → Good in-styles d before j → Bytes (encode-fields j) → length (css (styles-of j)) ≤ 111
+underline-most : (underline : Bool) → length (underline-css underline) ≤ 26
+unfolding underline-css ascii
+underline-most true = omega arith
+underline-most false = omega arith
+
+css-most : (d before : ℕ) (j : Fields ℕ) → Good in-styles d before j → Bytes (encode-fields j) → length (css (styles-of j)) ≤ 137
 unfolding css styles-of effective script
 css-most d before j G z =
     let s : Styles = styles-of j in
     omega (
       arith,
-      length-join (colour-css (s .colour) (s .opacity) ∷ weight-css (s .thickness) ∷ size-css (effective s) (script s) ∷ []),
+      length-join (colour-css (s .colour) (s .opacity) ∷ weight-css (s .thickness) ∷ size-css (effective s) (script s) ∷ underline-css (s .underline) ∷ []),
       colour-most (bytes-of 32 j) (bytes-of 33 j) (value-of 32 d before j G z) (value-of 33 d before j G z),
       weight-most (bytes-of 34 j) (value-of 34 d before j G z),
       size-most (bytes-of 35 j) (script s) (value-of 35 d before j G z),
+      underline-most (s .underline),
     )
 
 name-most : (s : Styles) → length (tag-name s) ≤ 4
@@ -198,8 +204,8 @@ unfolding ascii
 class-most true = omega arith
 class-most false = omega arith
 
--- AN OPENING TAG HAS AT MOST 144 BYTES, A CLOSING ONE 7
-pub open-tag-most : (d before : ℕ) (j : Fields ℕ) → Good in-styles d before j → Bytes (encode-fields j) → length (open-tag (styles-of j)) ≤ 144
+-- AN OPENING TAG HAS AT MOST 170 BYTES, A CLOSING ONE 7
+pub open-tag-most : (d before : ℕ) (j : Fields ℕ) → Good in-styles d before j → Bytes (encode-fields j) → length (open-tag (styles-of j)) ≤ 170
 unfolding open-tag ascii
 open-tag-most d before j G z =
     let s : Styles = styles-of j in

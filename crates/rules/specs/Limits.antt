@@ -19,7 +19,7 @@ plain-per-byte = 67
 
 -- the bytes of an HTML page, for each byte of its file, and those around its items: the document's, of which the body's are a part
 abbrev pub html-per-byte : ℕ
-html-per-byte = 210
+html-per-byte = 236
 
 abbrev pub html-frame : ℕ
 html-frame = 1_072

@@ -14,7 +14,7 @@ pub const MOST_COLUMNS: usize = 6553;
 pub const PLAIN_PER_BYTE: usize = 67;
 
 // The most bytes of an HTML page for each byte of its file, and those around its items: the document's, of which the body's are a part.
-pub const HTML_PER_BYTE: usize = 210;
+pub const HTML_PER_BYTE: usize = 236;
 
 pub const HTML_FRAME: usize = 1072;
 
