@@ -48,8 +48,11 @@ underline-css underline = if underline then ascii "text-decoration:underline;" e
 unfoldable pub css : Styles → List ℕ
 css s =
     join
-    (colour-css (s .colour) (s .opacity) ∷ weight-css (s .thickness) ∷ size-css (effective s) (script s)
-    ∷ underline-css (s .underline) ∷ [])
+    (colour-css (s .colour) (s .opacity)
+    ∷ weight-css (s .thickness)
+    ∷ size-css (effective s) (script s)
+    ∷ underline-css (s .underline)
+    ∷ [])
 
 -- sub, sup or else span
 unfoldable pub tag-name : Styles → List ℕ
