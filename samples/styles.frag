@@ -39,6 +39,13 @@ text "subscript of size 5: " text "x" text {size=5 sub} "large" force-line
 text "superscript of size -5: " text "x" text {size=-5 sup} "small" force-line
 text "dim: " text {dim} "half seen" force-line
 
+# An underline changes neither the size nor where the text stands.
+text "underline: " text {underline} "a < b && c" force-line
+text "underlined subscript: " text "x" text {sub underline} "i&j" force-line
+text "underlined superscript: " text "2" text {sup underline} "n<m" force-line
+text "underline of size -3, in the middle: " text {size=-3 underline} "smaller" force-line
+text "underline and dim: " text {dim underline} "half seen" force-line
+
 # Combinations.
 text "colour and dim: " text {colour=#118844 dim} "// a note" force-line
 text "colour, thickness: " text {colour=#118844 thickness=3} "keyword" force-line
@@ -46,10 +53,15 @@ text "colour, opacity, size: " text {colour=#118844 opacity=0.75 size=-3} "attri
 text "thickness, subscript, dim: " text "v" text {thickness=2 sub dim} "12" force-line
 text "all that go together: "
 text {colour=#aa5500 opacity=0.9 thickness=4 size=2 sup dim} "&<>\"'" force-line
+text "the same, underlined: "
+text {colour=#aa5500 opacity=0.9 thickness=4 size=2 sup dim underline} "&<>\"'" force-line
 
 # Styles on the runs of anchors, and over the ends of lines.
 text "definition: " anchor def "v<1>&co" (text {colour=#334155} "v" text {colour=#334155 sub} "1") force-line
 text "use: " anchor use "v<1>&co" (text {colour=#334155} "v" text {colour=#334155 sub} "1") force-line
+text "underlined use: "
+anchor use "v<1>&co" (text {colour=#334155 underline} "v" text {colour=#334155 sub} "1") force-line
 text "over two lines: " text {colour=#cc2222 dim} "first & line\nsecond < line" force-line
+text "underlined over two lines: " text {underline} "first & line\nsecond < line" force-line
 text "not ASCII: " text {thickness=2} "größer ≤ 3 µm, 光" force-line
 text "empty, but styled: " text {colour=#cc2222} "" text "|"

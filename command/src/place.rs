@@ -42,6 +42,7 @@ fn name(tag: u8) -> &'static str {
         36 => "subscript",
         37 => "superscript",
         38 => "dim",
+        39 => "underline",
         _ => "no field of the format",
     }
 }

@@ -32,22 +32,23 @@ CALL_HEX = """\
 010004 110001 29
 """
 
-STYLED = ("060000 02002c 130003 c3a90a 010023 10001b 200003 cc5555 210004 3e810000 220001 fd "
-          "230001 fe 240000 260000 110002 5c00")
+STYLED = ("060000 02002f 130003 c3a90a 010026 10001e 200003 cc5555 210004 3e810000 220001 fd "
+          "230001 fe 240000 260000 270000 110002 5c00")
 STYLED_TREE = """\
 place  tag  length  field
     0    6       0  ForceLineSeparation
-    3    2      44  Anchor
+    3    2      47  Anchor
     6   19       3    anchor bytes (use) "é\\n"
-   12    1      35    Text
-   15   16      27      Styles
+   12    1      38    Text
+   15   16      30      Styles
    18   32       3        colour #cc5555
    24   33       4        opacity 0.25195313 (bits 3e810000)
    31   34       1        thickness -3
    35   35       1        size -2
    39   36       0        subscript
    42   38       0        dim
-   45   17       2      text bytes "\\\\\\0"
+   45   39       0        underline
+   48   17       2      text bytes "\\\\\\0"
 """
 
 OPACITY_IN = "    0    1      13  Text\n    3   16       7    Styles\n"
@@ -100,8 +101,22 @@ REFUSED = [
      "refused 5 at 0: this Text ends without its text bytes (17)"),
     ("020000", "    0    2       0  Anchor\n",
      "refused 5 at 0: this Anchor ends without its anchor bytes (18 or 19)"),
-    ("010009 100003 270000 110000", "    0    1       9  Text\n    3   16       3    Styles\n",
-     "refused 4 at 6: tag 39 may not stand here in these Styles, expected 32 to 38"),
+    ("010009 100003 280000 110000", "    0    1       9  Text\n    3   16       3    Styles\n",
+     "refused 4 at 6: tag 40 may not stand here in these Styles, expected 32 to 39"),
+    ("01000c 100006 260000 260000 110000", """\
+    0    1      12  Text
+    3   16       6    Styles
+    6   38       0      dim
+""",
+     "refused 4 at 9: tag 38 may not stand here in these Styles, expected 39"),
+    ("01000c 100006 270000 260000 110000", """\
+    0    1      12  Text
+    3   16       6    Styles
+    6   39       0      underline
+""",
+     "refused 4 at 9: tag 38 may not stand here in these Styles, expected nothing"),
+    ("01000a 100004 270001 00 110000", "    0    1      10  Text\n    3   16       4    Styles\n",
+     "refused 5 at 6: the length of this underline is 1, not 0"),
     ("01000d 100007 2100047fc00000 110000", OPACITY_IN +
      "    6   33       4      opacity not a number (bits 7fc00000)\n",
      "refused 8 at 6: the opacity of bits 7fc00000 is not +0 and not from 1/1024 to 1"),

@@ -3,7 +3,7 @@
 from harness import Case, frag
 
 NODE_WORDS = "text, anchor, indented, inline-or-indented, space, force-line, if-block, raw, field"
-STYLE_WORDS = "colour=, opacity=, thickness=, size=, sub, sup, dim, raw, field"
+STYLE_WORDS = "colour=, opacity=, thickness=, size=, sub, sup, dim, underline, raw, field"
 ESCAPES = 'an escape: \\n \\r \\t \\0 \\\\ \\" \\xNN \\u{...}'
 SCALAR = "a Unicode scalar value: 0 to d7ff or e000 to 10ffff"
 OPACITY = "an opacity such as opacity=0.5 or opacity=bits:3f000000"
@@ -58,6 +58,8 @@ BUILD = [
     ('text {\n  colour\n} "a"', "2:3", "'colour'", STYLE_WORDS + " or '}'"),
     ('text {dim=1} "a"', "1:7", "'dim=1'", STYLE_WORDS + " or '}'"),
     ('text {dim sub dim} "a"', "1:15", "a second dim", "each at most once"),
+    ('text {underline dim underline} "a"', "1:21", "a second underline", "each at most once"),
+    ('text {underlined} "a"', "1:7", "'underlined'", STYLE_WORDS + " or '}'"),
     ('text {size=1 size=1} "a"', "1:14", "a second size", "each at most once"),
     ('text {colour=#12345} "a"', "1:7", "'colour=#12345'", "a colour such as colour=#cc5555"),
     ('text {colour=#1234567} "a"', "1:7", "'colour=#1234567'", "a colour such as colour=#cc5555"),

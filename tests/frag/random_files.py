@@ -41,6 +41,8 @@ def styles(rng):
         fields[rng.choice([36, 37])] = b""
     if rng.random() < 0.3:
         fields[38] = b""
+    if rng.random() < 0.3:
+        fields[39] = b""
     return field(16, b"".join(field(tag, fields[tag]) for tag in sorted(fields)))
 
 
@@ -84,7 +86,7 @@ def spoiled(rng, data):
     """One byte changed, put in or taken out, or the end cut off."""
     at = rng.randrange(len(data) + 1)
     kind = rng.randrange(4)
-    byte = bytes([rng.choice([0, 1, 2, 3, 4, 8, 16, 17, 32, 34, 38, 0x80, 0xC3, 0xFF])])
+    byte = bytes([rng.choice([0, 1, 2, 3, 4, 8, 16, 17, 32, 34, 38, 39, 40, 0x80, 0xC3, 0xFF])])
     if kind == 0:
         return data[:at] + byte + data[at + 1:]
     if kind == 1:

@@ -4,7 +4,7 @@ import re
 
 from harness import SAMPLES, Case, command, frag
 
-WANTED = {"call", "shader", "styles", "layout"}
+WANTED = {"call", "shader", "styles", "layout", "underline"}
 NUMBERS = set(range(3, 10))  # what a file alone can be refused by, but for its size
 
 

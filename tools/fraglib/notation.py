@@ -228,7 +228,7 @@ def in_order(styles):
 ANCHOR_KINDS = {"def": f.DEFINITION, "use": f.USE}
 BLOCK_TAGS = {"indented": f.INDENTED, "inline-or-indented": f.INLINE_OR_INDENTED}
 SIGNED_TAGS = {"thickness=": f.THICKNESS, "size=": f.SIZE}
-FLAG_TAGS = {"sub": f.SUBSCRIPT, "sup": f.SUPERSCRIPT, "dim": f.DIM}
+FLAG_TAGS = {"sub": f.SUBSCRIPT, "sup": f.SUPERSCRIPT, "dim": f.DIM, "underline": f.UNDERLINE}
 
 # What may stand where. A fault's message lists these words.
 ON_PURPOSE = {"raw": Parser.raw, "field": Parser.field}

@@ -18,6 +18,7 @@ WORDS = {
     f.SUBSCRIPT: "sub",
     f.SUPERSCRIPT: "sup",
     f.DIM: "dim",
+    f.UNDERLINE: "underline",
 }
 
 
