@@ -10,7 +10,7 @@ ROOT = HERE.parent.parent
 OUT = ROOT / "target" / "browser"
 
 # No text of these holds a CR or a NUL: a browser reads the first as a newline and leaves the second out, so no document can give them back.
-SAMPLES = ("call", "layout", "shader", "styles")
+SAMPLES = ("call", "layout", "shader", "styles", "underline")
 
 Document = collections.namedtuple("Document", "name file page html path")
 

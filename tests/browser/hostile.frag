@@ -20,6 +20,7 @@ text {colour=#15803d dim} "first  \n\n\tthird <\n" text "fourth" force-line
 text "before: " anchor use "größe<1>&2" (text "g" text {sub} "1") force-line
 text "definition: " anchor def "größe<1>&2" (text {colour=#b45309} "g" text {colour=#b45309 sub} "1") force-line
 text "after: " anchor use "größe<1>&2" (text {} "g" text {sub} "1") force-line
+text "underlined: " anchor use "größe<1>&2" (text {underline} "g" text {sub underline} "1" text "</a>") force-line
 text "to nowhere: " anchor use "nowhere" (text "&n") force-line
 
 # Anchors without texts: on a line, and, where the list does not fit, before the spaces of an indented line.

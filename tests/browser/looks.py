@@ -5,10 +5,11 @@ import struct
 
 TEXT, ANCHOR, STYLES = 1, 2, 16
 HOLDERS = (3, 4, 8)
-COLOUR, OPACITY, THICKNESS, SIZE, SUBSCRIPT, SUPERSCRIPT, DIM = range(32, 39)
+COLOUR, OPACITY, THICKNESS, SIZE, SUBSCRIPT, SUPERSCRIPT, DIM, UNDERLINE = range(32, 40)
 
 BLACK, PAGE_WEIGHT, LINK_WEIGHT, PAGE_SIZE = [0, 0, 0], 500, 900, 17
 DIMMED = "saturate(0.3) opacity(0.5)"
+NAMES_AND_ALIGNMENTS = {("span", "baseline"), ("span", "middle"), ("sub", "sub"), ("sup", "super")}
 
 
 def fields(value):
@@ -34,7 +35,8 @@ def look(style, around):
     name = "sub" if SUBSCRIPT in style else "sup" if SUPERSCRIPT in style else "span"
     colour = list(style.get(COLOUR, BLACK))
     opacity = struct.unpack(">f", style[OPACITY])[0] if OPACITY in style else 1
-    return [name, colour, opacity, weight(style, around), size(style, name), alignment(style, name), DIMMED if DIM in style else "none"]
+    numbers = [opacity, weight(style, around), size(style, name)]
+    return [name, colour, *numbers, alignment(style, name), DIMMED if DIM in style else "none", "underline" if UNDERLINE in style else "none"]
 
 
 def weight(style, around):
