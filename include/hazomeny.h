@@ -118,13 +118,14 @@ typedef struct hazomeny_style {
     uint8_t subscript;
     uint8_t superscript;
     uint8_t dim;
+    uint8_t underline;
 } hazomeny_style;
 
 /* The library takes a style as its bytes. */
 #if defined(__cplusplus) && __cplusplus >= 201103L
-static_assert(sizeof(hazomeny_style) == 17, "a style is 17 bytes");
+static_assert(sizeof(hazomeny_style) == 18, "a style is 18 bytes");
 #elif defined(__STDC_VERSION__) && __STDC_VERSION__ >= 201112L
-_Static_assert(sizeof(hazomeny_style) == 17, "a style is 17 bytes");
+_Static_assert(sizeof(hazomeny_style) == 18, "a style is 18 bytes");
 #endif
 
 /* The steps by their numbers. */
@@ -151,9 +152,9 @@ enum {
     HAZOMENY_STEP_FINISH = 19
 };
 
-/* One step of a writer, by its number. At every step `style` points to 17 bytes that can be read; text is looked at only by the steps that take
+/* One step of a writer, by its number. At every step `style` points to 18 bytes that can be read; text is looked at only by the steps that take
  * one. The functions below name the steps. */
-uint64_t hazomeny_write(uint8_t *file, size_t room, uint32_t state[2], uint8_t step, const uint8_t style[17], const uint8_t *text,
+uint64_t hazomeny_write(uint8_t *file, size_t room, uint32_t state[2], uint8_t step, const uint8_t style[18], const uint8_t *text,
                         size_t length);
 
 /* A writer at the start of a file, into `room` bytes at `file`. HAZOMENY_MOST_BYTES are always enough. */

@@ -16,25 +16,27 @@ static void need(int holds, const char *what) {
 static uint64_t accepted(uint64_t number) { return number << 8; }
 static uint64_t refused(unsigned number, uint64_t place) { return place << 8 | number; }
 
-/* A text, an anchor with a text, a block with an empty text, and a text that shows only in a broken block; and what their mask is. */
+/* A text, an anchor with a text, a block with an empty text, a text that shows only in a broken block, and one with a style; and what their mask is. */
 static const uint8_t ORIGINAL[] = {
     1, 0, 6, 17, 0, 3, 'a', '\n', 'b',                   /* 0: a text of two lines */
     2, 0, 11, 18, 0, 1, 'n', 1, 0, 4, 17, 0, 1, 'n',     /* 9: an anchor's name is not masked, its text is */
     4, 0, 9, 8, 0, 6, 1, 0, 3, 17, 0, 0,                 /* 23: a block */
     7, 0, 2, ',', '\n',                                  /* 35 */
+    1, 0, 10, 16, 0, 3, 39, 0, 0, 17, 0, 1, 39,          /* 40: an underline, and a text that is its tag */
 };
 static const uint8_t MASK[] = {
     1, 0, 6, 17, 0, 3, 'x', '\n', 'x',
     2, 0, 11, 18, 0, 1, 'n', 1, 0, 4, 17, 0, 1, 'x',
     4, 0, 9, 8, 0, 6, 1, 0, 3, 17, 0, 0,
     7, 0, 2, 'x', '\n',
+    1, 0, 10, 16, 0, 3, 39, 0, 0, 17, 0, 1, 'x',
 };
 enum { LENGTH = sizeof ORIGINAL };
 
 static const struct {
     uint32_t place;
     const char *name, *shown;
-} TEXTS[] = {{3, "a\nb", "x\nx"}, {19, "n", "x"}, {32, "", ""}, {35, ",\n", "x\n"}};
+} TEXTS[] = {{3, "a\nb", "x\nx"}, {19, "n", "x"}, {32, "", ""}, {35, ",\n", "x\n"}, {49, "\x27", "x"}};
 
 static void every_room(void) {
     for (size_t room = 0; room < LENGTH + 10; room++) {
@@ -79,7 +81,7 @@ static void no_text(void) {
 }
 
 static void not_the_mask(void) {
-    static const uint8_t bytes[] = {6, 7, 8, 15, 22, 23, 38, 39};
+    static const uint8_t bytes[] = {6, 7, 8, 15, 22, 23, 38, 39, 52};
     uint8_t other[LENGTH];
     memcpy(other, MASK, LENGTH);
     for (size_t i = COUNT(bytes); i-- > 0;) {

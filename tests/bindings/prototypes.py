@@ -31,7 +31,7 @@ WRITERS_LENGTHS = {"file": "room"}
 C_TYPES = {
     "&[u8]": "const uint8_t *{}",
     "&mut [u8]": "uint8_t *{}",
-    "&[u8; 17]": "const uint8_t {}[17]",
+    "&[u8; 18]": "const uint8_t {}[18]",
     "&mut [u32; 2]": "uint32_t {}[2]",
     "u8": "uint8_t {}",
     "u32": "uint32_t {}",
@@ -41,7 +41,7 @@ C_TYPES = {
 RUST_TYPES = {
     "&[u8]": "*const u8",
     "&mut [u8]": "*mut u8",
-    "&[u8; 17]": "*const [u8; 17]",
+    "&[u8; 18]": "*const [u8; 18]",
     "&mut [u32; 2]": "*mut [u32; 2]",
     "u8": "u8",
     "u32": "u32",
@@ -148,7 +148,7 @@ class Steps(unittest.TestCase):
 
     def test_a_style(self):
         self.assertEqual(style_in_c(HEADER), style_in_rust(STYLE))
-        self.assertEqual(style_in_c(HEADER)["STYLE_BYTES"], 17)
+        self.assertEqual(style_in_c(HEADER)["STYLE_BYTES"], 18)
 
     def test_mistakes_are_found(self):
         for found, source, was, wrong in [
@@ -156,7 +156,9 @@ class Steps(unittest.TestCase):
             (steps_in_rust, STEPS, "NextEntry = 16", "NextEntry = 17"),
             (named_in_c, HEADER, "return hazomeny_step(writer, HAZOMENY_STEP_CLOSE_ANCHOR)", "return hazomeny_step(writer, HAZOMENY_STEP_CLOSE_BLOCK)"),
             (style_in_c, HEADER, "    uint8_t has_size;\n", ""),
+            (style_in_c, HEADER, "    uint8_t dim;\n    uint8_t underline;\n", "    uint8_t underline;\n    uint8_t dim;\n"),
             (style_in_rust, STYLE, "SUBSCRIPT: usize = 14", "SUBSCRIPT: usize = 15"),
+            (style_in_rust, STYLE, "UNDERLINE: usize = 17", "UNDERLINE: usize = 16"),
         ]:
             with self.subTest(wrong):
                 self.assertIn(was, source)
@@ -211,11 +213,11 @@ class Prototypes(unittest.TestCase):
             (declared_in_c, HEADER, in_c, "uint64_t hazomeny_check", "uint32_t hazomeny_check"),
             (declared_in_c, HEADER, in_c, "size_t width);", "uint32_t width);"),
             (declared_in_c, HEADER, in_c, "uint32_t state[2], ", "uint32_t state[3], "),
-            (declared_in_c, HEADER, in_c, "const uint8_t style[17]", "const uint8_t *style"),
+            (declared_in_c, HEADER, in_c, "const uint8_t style[18]", "const uint8_t *style"),
             (declared_in_c, HEADER, in_c, "size_t mask_length, uint32_t place", "uint32_t mask_length, size_t place"),
             (declared_in_rust, RUST, in_rust, "length: usize, width: usize", "width: usize, length: usize"),
             (declared_in_rust, RUST, in_rust, "width: usize) -> u64;", "width: usize) -> u32;"),
-            (declared_in_rust, RUST, in_rust, "style: *const [u8; 17]", "style: *const [u8; 16]"),
+            (declared_in_rust, RUST, in_rust, "style: *const [u8; 18]", "style: *const [u8; 17]"),
             (declared_in_rust, RUST, in_rust, "step: u8", "step: u32"),
             (declared_in_rust, RUST, in_rust, "place: u32", "place: usize"),
             (declared_in_rust, RUST, in_rust, "mask: *const u8,", "mask: *mut u8,"),

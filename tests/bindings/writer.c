@@ -16,7 +16,7 @@ static void need(int holds, const char *what) {
 static uint64_t accepted(uint64_t number) { return number << 8; }
 static uint64_t refused(unsigned number, uint64_t place) { return place << 8 | number; }
 
-static const hazomeny_style DIM = {.styled = 1, .dim = 1};
+static const hazomeny_style DIM = {.styled = 1, .dim = 1}, UNDERLINED = {.styled = 1, .underline = 1};
 
 /* A script with every step in it. */
 static uint64_t scripted(hazomeny_writer *w, int number) {
@@ -43,7 +43,7 @@ static uint64_t scripted(hazomeny_writer *w, int number) {
     case 19: return hazomeny_close_block(w);
     case 20: return hazomeny_open_inline_or_indented_block(w);
     case 21: return hazomeny_close_block(w);
-    case 22: return hazomeny_begin_join_space(w, &DIM, "h", 1);
+    case 22: return hazomeny_begin_join_space(w, &UNDERLINED, "h", 1);
     case 23: return hazomeny_end_join_space(w);
     case 24: return hazomeny_begin_join_comma_sep(w, NULL, "p", 1);
     default: return hazomeny_end_join_comma_sep(w, NULL, "q", 1);
@@ -61,7 +61,7 @@ static const uint8_t SCRIPTED[] = {
     1, 0, 9, 16, 0, 3, 38, 0, 0, 17, 0, 0,                   /* the suffix */
     3, 0, 10, 8, 0, 7, 6, 0, 0, 7, 0, 1, ',',                /* an indented block */
     4, 0, 0,                                                 /* one that may stay on its line */
-    1, 0, 10, 16, 0, 3, 38, 0, 0, 17, 0, 1, 'h', 4, 0, 0,    /* a join of no entry by spaces */
+    1, 0, 10, 16, 0, 3, 39, 0, 0, 17, 0, 1, 'h', 4, 0, 0,    /* a join of no entry by spaces */
     1, 0, 4, 17, 0, 1, 'p', 4, 0, 0, 1, 0, 4, 17, 0, 1, 'q', /* and one by commas */
 };
 
@@ -119,8 +119,12 @@ static void every_style(void) {
     style.has_thickness = style.has_size = style.subscript = 0;
     style.superscript = style.dim = 255;
     STYLE_IS(&style, 16, 0, 6, 37, 0, 0, 38, 0, 0, 17, 0, 1, 'x');
+    style.underline = 128;
+    STYLE_IS(&style, 16, 0, 9, 37, 0, 0, 38, 0, 0, 39, 0, 0, 17, 0, 1, 'x');
+    style.superscript = style.dim = 0;
+    STYLE_IS(&style, 16, 0, 3, 39, 0, 0, 17, 0, 1, 'x');
     style.styled = 0; /* what would be refused is then not looked at */
-    style.subscript = style.has_opacity = style.has_size = 1;
+    style.subscript = style.superscript = style.has_opacity = style.has_size = 1;
     style.size = 118;
     STYLE_IS(&style, 17, 0, 1, 'x');
 }

@@ -1,4 +1,5 @@
-//! Writes the listing of a small shader module, with colours, subscripts, anchors and joins in joins, and prints it at widths 80 and 36.
+//! Writes the listing of a small shader module, with colours, subscripts, an underlined operand, anchors and joins in joins, and prints it at
+//! widths 80 and 36.
 
 use hazomeny::{append_plain_page, layout_file, Buffer, Refusal, Style, Writer};
 use std::io::{self, Write};
@@ -6,6 +7,8 @@ use std::process::ExitCode;
 
 const KEYWORD: Style = Style::new().colour([0x7c, 0x3a, 0xed]).thickness(1);
 const NAME: Style = Style::new().colour([0x1d, 0x4e, 0xd8]);
+/// What a pass over the module has changed.
+const CHANGED: Style = NAME.underline();
 const NUMBER: Style = Style::new().colour([0xb4, 0x53, 0x09]);
 const NOTE: Style = Style::new().size(-1).dim();
 
@@ -25,18 +28,23 @@ impl Id {
         format!("{}{}", self.0, self.1)
     }
 
-    fn texts(self, w: &mut Writer<impl Buffer>) -> Result<usize, Refusal> {
-        w.text(NAME.apply(self.0))?;
-        w.text(NAME.subscript().apply(&self.1.to_string()))
+    fn texts(self, style: Style, w: &mut Writer<impl Buffer>) -> Result<usize, Refusal> {
+        w.text(style.apply(self.0))?;
+        w.text(style.subscript().apply(&self.1.to_string()))
     }
 
     /// Where it is defined, which its uses link to.
     fn defined(self, w: &mut Writer<impl Buffer>) -> Result<usize, Refusal> {
-        w.anchor_definition(self.anchor(), |w| self.texts(w))
+        w.anchor_definition(self.anchor(), |w| self.texts(NAME, w))
     }
 
     fn used(self, w: &mut Writer<impl Buffer>) -> Result<usize, Refusal> {
-        w.anchor_use(self.anchor(), |w| self.texts(w))
+        w.anchor_use(self.anchor(), |w| self.texts(NAME, w))
+    }
+
+    /// A use that was another id's before.
+    fn used_anew(self, w: &mut Writer<impl Buffer>) -> Result<usize, Refusal> {
+        w.anchor_use(self.anchor(), |w| self.texts(CHANGED, w))
     }
 }
 
@@ -96,7 +104,7 @@ fn function(w: &mut Writer<impl Buffer>) -> Result<usize, Refusal> {
             typed(w, FADED, VECTOR)?;
             w.join_comma_sep(" = spv.VectorTimesScalar(", ")", |operands| {
                 operands.entry(|w| COLOUR.used(w))?;
-                operands.entry(|w| FOG.used(w))
+                operands.entry(|w| FOG.used_anew(w))
             })
         })?;
         w.fragment(|w| {

@@ -26,7 +26,7 @@ extern "C" {
         room: usize,
         state: *mut [u32; 2],
         step: u8,
-        style: *const [u8; 17],
+        style: *const [u8; 18],
         text: *const u8,
         length: usize,
     ) -> u64;

@@ -1,7 +1,7 @@
 //! What a text looks like, and a text with its style, as a writer's step takes them.
 
 /// How many bytes the library takes a style in.
-pub(crate) const STYLE_BYTES: usize = 17;
+pub(crate) const STYLE_BYTES: usize = 18;
 
 /// Where each part of a style stands in its bytes. A flag says whether the part behind it counts.
 mod at {
@@ -17,6 +17,7 @@ mod at {
     pub const SUBSCRIPT: usize = 14;
     pub const SUPERSCRIPT: usize = 15;
     pub const DIM: usize = 16;
+    pub const UNDERLINE: usize = 17;
 }
 
 /// The style of a text. It is built up from [`Style::new`], and [`Style::apply`] gives it to a text.
@@ -29,7 +30,7 @@ mod at {
 /// let mut w = Writer::growing(Vec::new());
 /// w.text(KEYWORD.apply("type"))?;
 /// w.text(" T")?;
-/// w.text(Style::new().subscript().apply("0"))?;
+/// w.text(Style::new().subscript().underline().apply("0"))?;
 /// assert_eq!(hazomeny::check_file(&w.finish()?), Ok(0));
 /// # Ok::<(), hazomeny::Refusal>(())
 /// ```
@@ -93,6 +94,11 @@ impl Style {
     /// Dim and with less colour, for what is the same in several versions of a listing.
     pub const fn dim(self) -> Self {
         self.with(at::DIM)
+    }
+
+    /// Underlined, for what is to stand out, such as an operand that has changed. It is no wider by that.
+    pub const fn underline(self) -> Self {
+        self.with(at::UNDERLINE)
     }
 
     /// The text in this style.

@@ -73,10 +73,45 @@ fn the_document_holds_the_body() {
     assert!(document.ends_with(&framed));
 }
 
+/// The text `x` with a style of these fields.
+fn styled_x(fields: &[u8]) -> Vec<u8> {
+    field(1, &[field(16, fields), field(17, b"x")].concat())
+}
+
+#[test]
+fn an_underline_is_the_last_item_of_its_style() {
+    let [sup, dim, underline] = [37, 38, 39].map(|tag| field(tag, b""));
+    let sized = [&field(35, &[5])[..], &dim, &underline].concat();
+    for (fields, right) in [
+        (underline.clone(), r#"<span style="LINE">x</span>"#),
+        (
+            [sup, underline].concat(),
+            r#"<sup style="font-size:0.8em;LINE">x</sup>"#,
+        ),
+        (
+            sized,
+            r#"<span style="font-size:1.5em;vertical-align:middle;LINE" class="unchanged">x</span>"#,
+        ),
+    ] {
+        let body = appended(append_html_body, &styled_x(&fields));
+        let right = right.replace("LINE", "text-decoration:underline;");
+        assert!(body.ends_with(format!("\n{right}</pre>").as_bytes()));
+    }
+}
+
+#[test]
+fn an_underline_has_no_width() {
+    for fields in [Vec::new(), field(39, b"")] {
+        let block = field(4, &field(8, &styled_x(&fields)));
+        assert_eq!(layout_file(&mut block.clone(), 1), Ok(0));
+        assert_eq!(layout_file(&mut block.clone(), 0), Ok(1));
+    }
+}
+
 /// A file for each refusal that every entry gives, with its place.
 fn faulty() -> Vec<(Vec<u8>, Refusal)> {
     let quoted = field(2, &field(18, b"a\"b"));
-    let large = field(1, &[field(16, &field(35, &[118])), field(17, b"")].concat());
+    let [dim, underline] = [38, 39].map(|tag| field(tag, b""));
     let cases = [
         (vec![5; 60_001], 1, 0),
         (vec![99], 3, 0),
@@ -86,7 +121,11 @@ fn faulty() -> Vec<(Vec<u8>, Refusal)> {
         ([text(b"a"), field(1, b"")].concat(), 5, 7),
         (nested(4, 33, Vec::new()), 6, 32 * 6),
         (text(b"\xc0\x80"), 7, 3),
-        (large, 8, 6),
+        (styled_x(&field(40, b"")), 4, 6),
+        (styled_x(&underline.repeat(2)), 4, 9),
+        (styled_x(&[underline, dim].concat()), 4, 9),
+        (styled_x(&field(39, b"x")), 5, 6),
+        (styled_x(&field(35, &[118])), 8, 6),
         (quoted, 9, 3),
     ];
     cases
@@ -211,6 +250,7 @@ fn styled(count: usize) -> Vec<u8> {
         field(34, &[0x80]),
         field(35, &[7]),
         field(38, b""),
+        field(39, b""),
     ];
     let text = field(1, &[field(16, &styles.concat()), field(17, b"&")].concat());
     text.repeat(count)
@@ -219,7 +259,7 @@ fn styled(count: usize) -> Vec<u8> {
 #[test]
 fn so_much_for_each_byte_and_the_frame_is_enough_for_html() {
     assert!(appended(append_html_body, &styled(100)).len() > 4 * styled(100).len());
-    for file in [indented_lines(29_000), styled(1), styled(1_700), call()] {
+    for file in [indented_lines(29_000), styled(1), styled(1_600), call()] {
         for (page, append) in &PAGES[1..3] {
             let right = appended(*append, &file);
             for room in [most_html(&file) - 1, most_html(&file)] {

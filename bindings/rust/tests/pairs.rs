@@ -20,7 +20,7 @@ fn mask_of(file: &[u8]) -> Vec<u8> {
 }
 
 fn styled(bytes: Vec<u8>) -> Vec<u8> {
-    let style = [field(32, b"abc"), field(38, b"")].concat();
+    let style = [field(32, b"abc"), field(38, b""), field(39, b"")].concat();
     field(1, &[field(16, &style), field(17, &bytes)].concat())
 }
 

@@ -29,6 +29,7 @@ fn each_kind() -> Vec<u8> {
         field(35, &[0xf7]),
         field(36, b""),
         field(38, b""),
+        field(39, b""),
     ];
     let styled = field(
         1,

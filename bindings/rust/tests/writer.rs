@@ -114,11 +114,14 @@ fn styles() {
     assert_eq!(style_fields(Style::new().subscript()), field(36, b""));
     assert_eq!(style_fields(Style::new().superscript()), field(37, b""));
     assert_eq!(style_fields(Style::new().dim()), field(38, b""));
+    assert_eq!(style_fields(Style::new().underline()), field(39, b""));
 
-    let all = colour.opacity(0.5).thickness(4).size(5).subscript().dim();
+    let all = colour.underline().dim().subscript().size(5);
+    let all = all.thickness(4).opacity(0.5);
     let colour = [field(32, &[1, 2, 3]), opacity(0x3f00_0000)].concat();
     let rest = [field(34, &[4]), field(35, &[5]), field(36, b"")].concat();
-    assert_eq!(style_fields(all), [colour, rest, field(38, b"")].concat());
+    let flags = [field(38, b""), field(39, b"")].concat();
+    assert_eq!(style_fields(all), [colour, rest, flags].concat());
 }
 
 /// `header 0 1 2` or `prefix 0, 1, 2 suffix` of so many entries, begun by the step.
@@ -534,7 +537,7 @@ const SCRIPT: [LentStep; 22] = [
     |w| w.open_anchor_definition("name"),
     |w| w.text("é"),
     |w| w.close_anchor(),
-    |w| w.begin_join_space(Style::new().apply("")),
+    |w| w.begin_join_space(Style::new().underline().apply("")),
     |w| w.next_entry(),
     |w| w.breaking_only_space(),
     |w| w.next_entry(),
@@ -636,7 +639,7 @@ mod c {
             room: usize,
             state: *mut [u32; 2],
             step: u8,
-            style: *const [u8; 17],
+            style: *const [u8; 18],
             text: *const u8,
             length: usize,
         ) -> u64;
@@ -658,7 +661,7 @@ fn raw(front: &[u8], room: usize, state: [u32; 2], step: u8) -> u64 {
             room,
             &mut after,
             step,
-            &[0; 17],
+            &[0; 18],
             text.as_ptr(),
             text.len(),
         )
