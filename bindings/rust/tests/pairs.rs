@@ -182,7 +182,7 @@ fn the_texts_of_a_call() {
 
 #[test]
 fn an_empty_text_is_accepted() {
-    for (file, place) in [(text(""), 3), (field(7, b""), 0), (styled(Vec::new()), 15)] {
+    for (file, place) in [(text(""), 3), (field(7, b""), 0), (styled(Vec::new()), 18)] {
         let pair = Pair::new(&file, &file);
         assert_eq!(pair.check(place), Ok(0));
         assert_eq!(
