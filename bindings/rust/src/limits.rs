@@ -11,7 +11,7 @@ pub const PLAIN_PER_BYTE: usize = 67;
 
 /// The most bytes of an HTML body or document for each byte of its file, beside [`HTML_FRAME`]: a page of so many times the file's length and
 /// the frame is never refused by 10.
-pub const HTML_PER_BYTE: usize = 210;
+pub const HTML_PER_BYTE: usize = 236;
 
 /// The bytes around the items of an HTML document, which is the document of an empty file; those of a body are fewer.
 pub const HTML_FRAME: usize = 1_072;
