@@ -1,8 +1,8 @@
 //! What is right: the answer to a request and each lent byte afterwards.
 
 use crate::check::{check, Refusal};
+use crate::original;
 use crate::tags::LARGEST_WIDTH;
-use crate::tree;
 use crate::words::MOST_TIMES;
 
 /// The page buffer is lent filled with this byte.
@@ -44,7 +44,7 @@ impl Operation {
         Self::ALL.into_iter().find(|op| op.name() == name)
     }
 
-    /// In the order of [`tree::pages`].
+    /// In the order of [`original::pages`].
     pub const PAGES: [Self; 3] = [Self::Plain, Self::Body, Self::Document];
 
     pub fn is_page(self) -> bool {
@@ -238,7 +238,7 @@ pub fn layout_outcome(file: &[u8], checked: Checked, width: u16) -> Outcome {
             lent: file.to_vec(),
         };
     }
-    let lent = tree::laid_out(file, width);
+    let lent = original::laid_out(file, width);
     let changed = file.iter().zip(&lent).filter(|(a, b)| a != b).count();
     Outcome {
         answer: Answer::Accepted(changed),
@@ -261,9 +261,9 @@ fn layout_check(walked: Checked, width: u16) -> Checked {
 pub fn rendered(page: Operation, file: &[u8]) -> Result<Vec<u8>, Refusal> {
     check(file)?;
     Ok(match page {
-        Operation::Plain => tree::plain(file),
-        Operation::Body => tree::body(file),
-        Operation::Document => tree::document(file),
+        Operation::Plain => original::plain(file),
+        Operation::Body => original::body(file),
+        Operation::Document => original::document(file),
         Operation::Check | Operation::Layout => unreachable!("{page:?} has no page"),
     })
 }

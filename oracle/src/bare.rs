@@ -1,6 +1,6 @@
 //! What no width may change: the words of texts, pages and bodies, which are their bytes but spaces and newlines.
 
-use crate::body;
+use crate::body::{self, Piece};
 use crate::field::{self, Field};
 use crate::tags::{IF_BLOCK_LAYOUT, TEXT_BYTES};
 
@@ -16,9 +16,11 @@ pub fn page(page: &[u8]) -> Vec<u8> {
 
 /// The tags of an HTML body, each whole, and the words between them.
 pub fn body(body: &[u8]) -> Vec<u8> {
-    let kept = |(byte, in_tag): &(u8, bool)| *in_tag || is_of_word(*byte);
-    let bytes = body::marked(body).filter(kept);
-    bytes.map(|(byte, _)| byte).collect()
+    let kept = |piece| match piece {
+        Piece::Tag(tag) => tag.to_vec(),
+        Piece::Between(text) => page(text),
+    };
+    body::pieces(body).into_iter().flat_map(kept).collect()
 }
 
 /// The words of all texts in file order: of the values of 17.

@@ -146,15 +146,14 @@ impl Walk<'_> {
 
     /// A 16: its fields first, then missing colour, then 36 with 37.
     fn styles(&self, styles: Found) -> Checked {
-        const RISING: [u8; 7] = [32, 33, 34, 35, 36, 37, 38];
         let mut seen = Vec::new();
-        let mut later = &RISING[..];
+        let mut later = &STYLE_TAGS[..];
         let mut place = styles.start;
         while place < styles.end {
             let part = self.field(place, styles.end, later)?;
             self.style(part)?;
             seen.push(part.tag);
-            later = &RISING[usize::from(part.tag - COLOUR) + 1..];
+            later = &STYLE_TAGS[usize::from(part.tag - COLOUR) + 1..];
             place = part.end;
         }
         let has = |tag| seen.contains(&tag);
@@ -183,7 +182,7 @@ fn fixed_length(tag: u8) -> Option<usize> {
         COLOUR => Some(3),
         OPACITY => Some(4),
         THICKNESS | SIZE => Some(1),
-        SUBSCRIPT | SUPERSCRIPT | DIM => Some(0),
+        SUBSCRIPT | SUPERSCRIPT | DIM | UNDERLINE => Some(0),
         _ => None,
     }
 }

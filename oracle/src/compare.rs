@@ -7,10 +7,10 @@ use crate::extent::Extent;
 use crate::field;
 use crate::generate;
 use crate::hex::hex;
+use crate::original;
 use crate::random::Random;
 use crate::shrink::shrink;
 use crate::subject::{self, Said, Subject};
-use crate::tree;
 use crate::wire;
 
 /// A batch is asked when it holds so many requests, or so many bytes of files
@@ -136,7 +136,7 @@ impl Run<'_> {
             file
         };
         if parts.iter().any(|part| part.is_page()) {
-            let pages = checked.map(|()| tree::pages(shown));
+            let pages = checked.map(|()| original::pages(shown));
             self.ask_pages(random, shown, &pages, parts)?;
         }
         self.tally.files += 1;

@@ -44,7 +44,8 @@ fn whole(bytes: &[u8]) -> Option<(u8, &[u8], &[u8])> {
     (length <= rest.len()).then(|| (tag, &rest[..length], &rest[length..]))
 }
 
-fn is_inner(tag: u8) -> bool {
+/// Whether the value of a field with this tag is fields.
+pub fn is_inner(tag: u8) -> bool {
     matches!(
         tag,
         TEXT | ANCHOR | INDENTED_BLOCK | INLINE_OR_INDENTED_BLOCK | FRAGMENT | STYLES

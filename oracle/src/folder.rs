@@ -1,7 +1,7 @@
 //! Every `*.fragment` file below a folder printed by the Rust original, one after the other: what `hazomeny print` is timed beside.
 
 use crate::check::check;
-use crate::tree;
+use crate::original;
 use std::ffi::OsStr;
 use std::fs;
 use std::path::Path;
@@ -27,7 +27,7 @@ fn one(path: &Path, page: &Path, width: u16) -> Result<usize, String> {
     if check(&file).is_err() {
         return Ok(0);
     }
-    let written = fs::write(page, tree::laid_out_plain(&file, width));
+    let written = fs::write(page, original::laid_out_plain(&file, width));
     written.map_err(|why| told(page, &why)).map(|()| 1)
 }
 

@@ -9,8 +9,34 @@ use crate::tags::*;
 
 /// The fields of an accepted file.
 pub fn fields(random: &mut Random) -> Vec<Field> {
+    made(random, underlined)
+}
+
+/// The fields of an accepted file that the original has a tree for.
+pub fn fields_without_39s(random: &mut Random) -> Vec<Field> {
+    made(random, |_, _| {})
+}
+
+/// What is done to the fields of a file before it is filled up.
+type Edit = fn(&mut Random, &mut [Field]);
+
+/// Of the files one in so many has no 39.
+const WITHOUT_39S: usize = 3;
+
+/// Underlines some texts, as far as there is room.
+fn underlined(random: &mut Random, fields: &mut [Field]) {
+    if random.one_in(WITHOUT_39S) {
+        return;
+    }
+    let mut room = LONGEST_FILE.saturating_sub(field::length(fields));
+    styles::underline(random, fields, &mut room);
+}
+
+fn made(random: &mut Random, edit: Edit) -> Vec<Field> {
     if random.one_in(400) {
-        return wide(random);
+        let mut fields = wide(random);
+        edit(random, &mut fields);
+        return fields;
     }
     let left = file_size(random);
     let fill = left > 10_000 && random.one_in(2);
@@ -19,11 +45,11 @@ pub fn fields(random: &mut Random) -> Vec<Field> {
     while plan.left > 0 {
         fields.extend(plan.nodes(0));
     }
-    let mut length = field::length(&fields);
-    while length > LONGEST_FILE {
+    while field::length(&fields) > LONGEST_FILE {
         fields.pop();
-        length = field::length(&fields);
     }
+    edit(random, &mut fields);
+    let length = field::length(&fields);
     if fill && length + 2 * HEADER <= LONGEST_FILE {
         let rest = LONGEST_FILE - length - 2 * HEADER;
         fields.push(field::text(vec![b'p'; rest]));
@@ -33,6 +59,13 @@ pub fn fields(random: &mut Random) -> Vec<Field> {
 
 /// The fields of a small accepted file.
 pub fn small_fields(random: &mut Random) -> Vec<Field> {
+    let mut fields = small_fields_without_39s(random);
+    underlined(random, &mut fields);
+    fields
+}
+
+/// The fields of a small accepted file that the original has a tree for.
+pub fn small_fields_without_39s(random: &mut Random) -> Vec<Field> {
     let left = random.between(0, 60);
     Plan { random, left }.nodes(0)
 }

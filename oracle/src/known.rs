@@ -1,8 +1,10 @@
 //! Faults put into an accepted file on purpose, with the refusal that document 01 gives for each.
 
 use crate::check::Refusal;
-use crate::damage::{styles::BAD_OPACITIES, NOT_UTF8};
+use crate::damage::styles::{BAD_ENDS, BAD_OPACITIES};
+use crate::damage::NOT_UTF8;
 use crate::field::{self, Field};
+use crate::original::is_39;
 use crate::random::Random;
 use crate::tags::*;
 
@@ -14,7 +16,7 @@ pub struct Known {
 
 /// A known fault in a file that is accepted without it; none if the file has no place for it.
 pub fn fault(random: &mut Random, fields: &[Field]) -> Option<Known> {
-    match random.below(8) {
+    match random.below(9) {
         0 => Some(cut(random, fields)),
         1 => Some(deep(random, fields)),
         2 => long(random, fields),
@@ -85,7 +87,7 @@ fn in_field(random: &mut Random, fields: &[Field], kind: usize) -> Option<Known>
         return None;
     }
     let number = random.below(places.len());
-    let (place, _, found) = places[number];
+    let (mut place, _, found) = places[number];
     let mut fields = fields.to_vec();
     let (list, index) = field::holder(&mut fields, number)?;
     let number = match (kind, found) {
@@ -95,6 +97,11 @@ fn in_field(random: &mut Random, fields: &[Field], kind: usize) -> Option<Known>
         (7, Field::Leaf(tag, _)) if field_is_fixed(*tag) => {
             resize(random, &mut list[index]);
             5
+        }
+        (8, Field::Inner(STYLES, _)) => {
+            let (number, inside) = bad_end(random, &mut list[index])?;
+            place += HEADER + inside;
+            number
         }
         _ => return None,
     };
@@ -126,6 +133,18 @@ fn value_fault(random: &mut Random, tag: u8, field: &mut Field) -> Option<u8> {
     Some(8)
 }
 
+/// Ends a 16 badly; the number that answers, and how far in the value.
+fn bad_end(random: &mut Random, field: &mut Field) -> Option<(u8, usize)> {
+    let Field::Inner(_, inside) = field else {
+        return None;
+    };
+    inside.retain(|field| !is_39(field));
+    let end = random.pick(&BAD_ENDS);
+    let before = inside.len() + end.at;
+    inside.extend(end.fields());
+    Some((end.number, field::length(&inside[..before])))
+}
+
 /// Takes out what a 1 or an anchor without runs has to hold.
 fn missing(tag: u8, field: &mut Field) -> Option<u8> {
     let Field::Inner(_, inside) = field else {
@@ -142,7 +161,7 @@ fn missing(tag: u8, field: &mut Field) -> Option<u8> {
 fn spoil_header(random: &mut Random, field: &mut Field) -> u8 {
     let mut bytes = field::encode(std::slice::from_ref(field));
     let number = if random.one_in(2) {
-        bytes[0] = random.pick(&[0, 9, 15, 20, 31, 39, 99, 255]);
+        bytes[0] = random.pick(&[0, 9, 15, 20, 31, 40, 99, 255]);
         4
     } else {
         bytes[1..HEADER].fill(0xff);
@@ -153,10 +172,7 @@ fn spoil_header(random: &mut Random, field: &mut Field) -> u8 {
 }
 
 fn field_is_fixed(tag: u8) -> bool {
-    matches!(
-        tag,
-        BREAKING_ONLY_SPACE | FORCE_LINE_SEPARATION | COLOUR..=DIM
-    )
+    matches!(tag, BREAKING_ONLY_SPACE | FORCE_LINE_SEPARATION) || STYLE_TAGS.contains(&tag)
 }
 
 fn resize(random: &mut Random, field: &mut Field) {

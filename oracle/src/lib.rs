@@ -24,6 +24,7 @@ pub mod masker;
 pub mod masks;
 pub mod numbers;
 pub mod options;
+pub mod original;
 pub mod pair;
 pub mod pairs;
 pub mod properties;

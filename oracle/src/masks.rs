@@ -10,11 +10,11 @@ use crate::extent::Extent;
 use crate::field;
 use crate::generate;
 use crate::hex::hex;
+use crate::original;
 use crate::random::Random;
 use crate::shrink::shrink;
 use crate::subject::{self, Said, Subject};
 use crate::tags::LARGEST_WIDTH;
-use crate::tree;
 use crate::wire;
 use mask::Kept;
 use std::iter;
@@ -112,8 +112,8 @@ fn groups(seed: u64, layout: &Request) -> Vec<Group> {
 /// The pages of the file as it is laid out, of its marks and of those of the masks that keep enough.
 fn pages(random: &mut Random, layout: &Request, masks: &[(Kept, Vec<u8>)]) -> [Group; 3] {
     let file = &layout.file;
-    let laid_out = tree::laid_out(file, layout.width.min(LARGEST_WIDTH));
-    let lengths = tree::pages(&laid_out).map(|page| page.len());
+    let laid_out = original::laid_out(file, layout.width.min(LARGEST_WIDTH));
+    let lengths = original::pages(&laid_out).map(|page| page.len());
     [0, 1, 2].map(|index| {
         let operation = Operation::PAGES[index];
         let kept = match operation {

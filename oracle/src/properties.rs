@@ -2,12 +2,12 @@
 
 use crate::answers::{answer, page_outcome, rendered, Answer, Operation, Outcome, Request, LENT};
 use crate::bare;
-use crate::body;
+use crate::body::{self, Piece};
 use crate::check::check;
 use crate::field::{self, Field};
+use crate::original;
 use crate::pair::{self, masked};
 use crate::tags::*;
-use crate::tree;
 
 /// Holds or says what is wrong.
 pub type Held = Result<(), String>;
@@ -16,7 +16,7 @@ pub type Held = Result<(), String>;
 pub type Property = (&'static str, fn(&[u8], u16) -> Held);
 
 /// Of accepted files.
-pub const OF_ACCEPTED: [Property; 11] = [
+pub const OF_ACCEPTED: [Property; 12] = [
     ("generated files are accepted", accepted),
     ("decoding and encoding give the file back", there_and_back),
     ("layout only turns 4s into 3s", layout_changes_4_to_3),
@@ -28,6 +28,10 @@ pub const OF_ACCEPTED: [Property; 11] = [
     ("a file and its mask are a pair", is_pair),
     ("the words are the same at every width", same_words),
     ("a page is not too long for its file", not_too_long),
+    (
+        "a 39 is an item of its text's tag and nothing else",
+        underlines,
+    ),
 ];
 
 /// Of any bytes.
@@ -52,7 +56,9 @@ fn accepted(file: &[u8], _: u16) -> Held {
 }
 
 fn there_and_back(file: &[u8], _: u16) -> Held {
-    ensure(tree::there_and_back(file) == file, || "another file".into())
+    ensure(original::there_and_back(file) == file, || {
+        "another file".into()
+    })
 }
 
 /// The count and the file of an accepted layout.
@@ -109,8 +115,15 @@ fn body_is_plain(file: &[u8], width: u16) -> Held {
 
 /// The text of a body as a browser would have it: the newline after `<pre>` does not count.
 fn without_tags(body: &[u8]) -> Vec<u8> {
-    let outside = body::marked(body).filter(|(_, in_tag)| !in_tag);
-    let text: Vec<u8> = outside.map(|(byte, _)| byte).collect();
+    let between = |piece| match piece {
+        Piece::Tag(_) => &[],
+        Piece::Between(text) => text,
+    };
+    let text: Vec<u8> = body::pieces(body)
+        .into_iter()
+        .flat_map(between)
+        .copied()
+        .collect();
     let text = replaced(&text[1..], b"&lt;", b"<");
     replaced(&text, b"&amp;", b"&")
 }
@@ -246,6 +259,45 @@ fn not_too_long(file: &[u8], width: u16) -> Held {
         }
     }
     Ok(())
+}
+
+/// Without its 39s a file is laid out the same and has the same plain page, and with the items taken out its body is that of the other.
+fn underlines(file: &[u8], width: u16) -> Held {
+    let bare = original::without_39s(file);
+    let ((count, after), (bare_count, bare_after)) =
+        (laid_out(file, width)?, laid_out(&bare, width)?);
+    ensure(count == bare_count, || "another count".into())?;
+    ensure(original::without_39s(&after) == bare_after, || {
+        "other tags changed".into()
+    })?;
+    let [plain, bare_plain] = [&after, &bare_after].map(|file| page(Operation::Plain, file));
+    ensure(plain? == bare_plain?, || "another plain page".into())?;
+    let (body, items) = without_items(&page(Operation::Body, &after)?);
+    ensure(body == page(Operation::Body, &bare_after)?, || {
+        "another body".into()
+    })?;
+    let fields = field::parse(file);
+    let places = field::places(&fields).into_iter();
+    let right = places.filter(|(.., field)| original::is_39(field)).count();
+    ensure(items == right, || format!("{items} items for {right} 39s"))
+}
+
+/// A body with the items of 39s taken out, each of which has to be the last of its style, and how many there were.
+fn without_items(body: &[u8]) -> (Vec<u8>, usize) {
+    let [last, alone] =
+        [&b""[..], original::STYLE].map(|before| [before, original::ITEM, b"\""].concat());
+    let (mut out, mut items) = (Vec::new(), 0);
+    for piece in body::pieces(body) {
+        match piece {
+            Piece::Tag(tag) if body::opens_style(tag) => {
+                let bare = replaced(&replaced(tag, &alone, b""), &last, b"\"");
+                items += usize::from(bare != tag);
+                out.extend(bare);
+            }
+            Piece::Tag(bytes) | Piece::Between(bytes) => out.extend(bytes),
+        }
+    }
+    (out, items)
 }
 
 fn same_refusal(file: &[u8], width: u16) -> Held {

@@ -5,12 +5,7 @@ use crate::check::Refusal;
 use crate::hex::hex;
 use crate::subject::{Oneself, Subject};
 use crate::writer::{self, Step};
-
-/// A style as the C function takes it.
-pub type Record = [u8; 17];
-
-/// No style at all.
-pub const UNSTYLED: Record = [0; 17];
+pub use crate::writer::{Style as Record, UNSTYLED};
 
 /// Of a longer text only the front is shown.
 const MOST_SHOWN: usize = 100;

@@ -21,6 +21,19 @@ pub const SIZE: u8 = 35;
 pub const SUBSCRIPT: u8 = 36;
 pub const SUPERSCRIPT: u8 = 37;
 pub const DIM: u8 = 38;
+pub const UNDERLINE: u8 = 39;
+
+/// The fields of a 16, in the order in which they may stand. Whatever goes through all style tags reads this list.
+pub const STYLE_TAGS: [u8; 8] = [
+    COLOUR,
+    OPACITY,
+    THICKNESS,
+    SIZE,
+    SUBSCRIPT,
+    SUPERSCRIPT,
+    DIM,
+    UNDERLINE,
+];
 
 /// The bytes of a field before its value.
 pub const HEADER: usize = 3;

@@ -1,4 +1,4 @@
-//! Accepted files as trees of the original: decoded, handed over, encoded again.
+//! Accepted files without 39s as trees of the original: decoded, handed over, encoded again. `original.rs` asks about files with 39s.
 
 use crate::print::pretty::{Fragment, FragmentPostLayout, Node, Styles};
 use crate::tags::*;
@@ -118,7 +118,7 @@ pub fn with_tree<R>(file: &[u8], number: usize, work: fn(Fragment, usize) -> R) 
 }
 
 /// The fields of an accepted value, one after the other.
-struct Fields<'a>(&'a [u8]);
+pub struct Fields<'a>(pub &'a [u8]);
 
 impl<'a> Iterator for Fields<'a> {
     type Item = (u8, &'a [u8]);
@@ -180,7 +180,7 @@ fn utf8(value: &'static [u8]) -> &'static str {
     std::str::from_utf8(value).expect("an accepted text is UTF-8")
 }
 
-/// The styles of an accepted 16.
+/// The styles of an accepted 16 without a 39.
 pub fn styles(value: &[u8]) -> Styles {
     let mut styles = Styles::default();
     for (tag, value) in Fields(value) {

@@ -5,6 +5,12 @@
 
 use crate::tags::*;
 
+/// A style as the C function takes it: flags and values, the flag of an underline last.
+pub type Style = [u8; 18];
+
+/// No style at all.
+pub const UNSTYLED: Style = [0; 18];
+
 /// The steps, in the order of their numbers.
 #[derive(Clone, Copy, Debug, PartialEq, Eq)]
 pub enum Step {
@@ -121,13 +127,7 @@ impl Kind {
 type Refusal = (u8, usize);
 
 /// One step over the buffer `file`. `state` is how far it is written, and the place of the innermost open field and 1, or 0 where none is open.
-pub fn write(
-    file: &mut [u8],
-    state: &mut [u32; 2],
-    step: u8,
-    style: &[u8; 17],
-    text: &[u8],
-) -> u64 {
+pub fn write(file: &mut [u8], state: &mut [u32; 2], step: u8, style: &Style, text: &[u8]) -> u64 {
     let call = Call { step, style, text };
     match call.made_on(file, *state) {
         Ok(after) => {
@@ -146,7 +146,7 @@ fn coded(number: u8, above: usize) -> u64 {
 
 struct Call<'a> {
     step: u8,
-    style: &'a [u8; 17],
+    style: &'a Style,
     text: &'a [u8],
 }
 
@@ -336,7 +336,7 @@ impl Written {
             (Some(Kind::CommaJoin), _) => self.open(Kind::CommaEntry),
             (kind, code) => {
                 if kind == Some(Kind::CommaEntry) {
-                    self.put(&text_node(&[0; 17], b","));
+                    self.put(&text_node(&UNSTYLED, b","));
                     self.put(&SPACE);
                 }
                 self.close();
@@ -366,7 +366,7 @@ fn field(tag: u8, value: &[u8]) -> Vec<u8> {
     [&[tag, high, low], value].concat()
 }
 
-fn text_node(style: &[u8; 17], text: &[u8]) -> Vec<u8> {
+fn text_node(style: &Style, text: &[u8]) -> Vec<u8> {
     let bytes = field(TEXT_BYTES, text);
     match style_fields(style) {
         Some(fields) => field(TEXT, &[field(STYLES, &fields.concat()), bytes].concat()),
@@ -375,7 +375,7 @@ fn text_node(style: &[u8; 17], text: &[u8]) -> Vec<u8> {
 }
 
 /// The fields of a 16, rising; none where there is no 16.
-fn style_fields(style: &[u8; 17]) -> Option<Vec<Vec<u8>>> {
+fn style_fields(style: &Style) -> Option<Vec<Vec<u8>>> {
     let parts = [
         (style[1], COLOUR, &style[2..5]),
         (style[5], OPACITY, &style[6..10]),
@@ -384,13 +384,14 @@ fn style_fields(style: &[u8; 17]) -> Option<Vec<Vec<u8>>> {
         (style[14], SUBSCRIPT, &[]),
         (style[15], SUPERSCRIPT, &[]),
         (style[16], DIM, &[]),
+        (style[17], UNDERLINE, &[]),
     ];
     let there = parts.into_iter().filter(|(flag, ..)| *flag != 0);
     let fields = there.map(|(_, tag, value)| field(tag, value)).collect();
     (style[0] != 0).then_some(fields)
 }
 
-fn good_style(style: &[u8; 17]) -> bool {
+fn good_style(style: &Style) -> bool {
     let fields = style_fields(style).unwrap_or_default();
     let has = |tag| fields.iter().any(|field| field[0] == tag);
     let good = |field: &Vec<u8>| match field[..] {

@@ -1,8 +1,9 @@
-//! Bad styles: order, repeats, ranges, opacity without colour, both scripts.
+//! Bad styles: order, repeats, lengths, ranges, opacity without colour, both scripts.
 
 use super::edit_tagged;
 use crate::field::{leaf, styled, Field};
 use crate::generate;
+use crate::original::is_39;
 use crate::random::Random;
 use crate::tags::*;
 
@@ -24,10 +25,39 @@ pub const BAD_OPACITIES: [u32; 14] = [
     0xffff_ffff,
 ];
 
+/// Fields behind the others of a 16 without a 39 that are refused, and how.
+#[derive(Clone, Copy)]
+pub struct BadEnd {
+    /// Their tags, each with the length of its value.
+    ends: &'static [(u8, usize)],
+    /// The number, at which of them.
+    pub number: u8,
+    pub at: usize,
+}
+
+/// A 39 that has a value, comes twice or before a 38, and a tag behind the last.
+#[rustfmt::skip] // one row, one line
+pub const BAD_ENDS: [BadEnd; 7] = [
+    BadEnd { ends: &[(UNDERLINE, 1)], number: 5, at: 0 },
+    BadEnd { ends: &[(UNDERLINE, 3)], number: 5, at: 0 },
+    BadEnd { ends: &[(UNDERLINE, 0), (UNDERLINE, 0)], number: 4, at: 1 },
+    BadEnd { ends: &[(UNDERLINE, 0), (DIM, 0)], number: 4, at: 1 },
+    BadEnd { ends: &[(UNDERLINE, 0), (SUBSCRIPT, 0)], number: 4, at: 1 },
+    BadEnd { ends: &[(UNDERLINE + 1, 0)], number: 4, at: 0 },
+    BadEnd { ends: &[(UNDERLINE, 0), (UNDERLINE + 1, 0)], number: 4, at: 1 },
+];
+
+impl BadEnd {
+    pub fn fields(self) -> impl Iterator<Item = Field> {
+        let field = |(tag, length): &(u8, usize)| leaf(*tag, vec![0; *length]);
+        self.ends.iter().map(field)
+    }
+}
+
 /// Spoils a style of the tree, or puts a text with a bad one at its end.
 pub fn damage(random: &mut Random, fields: &mut Vec<Field>) {
     if random.one_in(3) {
-        let mut inside = generate::styles::styles(random);
+        let mut inside = generate::styles::any(random);
         spoil(random, &mut inside);
         fields.push(styled(inside, b"s"));
         return;
@@ -40,7 +70,7 @@ pub fn damage(random: &mut Random, fields: &mut Vec<Field>) {
 }
 
 fn spoil(random: &mut Random, inside: &mut Vec<Field>) {
-    match random.below(8) {
+    match random.below(10) {
         0 => replace(inside, SIZE, &[random.between(118, 127) as u8]),
         1 | 2 => {
             let bits = random.pick(&BAD_OPACITIES);
@@ -56,8 +86,12 @@ fn spoil(random: &mut Random, inside: &mut Vec<Field>) {
             let again = inside[random.below(inside.len())].clone();
             inside.push(again);
         }
+        7 | 8 => {
+            inside.retain(|field| !is_39(field));
+            inside.extend(random.pick(&BAD_ENDS).fields());
+        }
         _ => {
-            let tag = random.pick(&[0, 1, 17, 31, 32, 33, 34, 35, 36, 37, 38, 39, 255]);
+            let tag = random.pick(&[0, 1, 17, 31, 32, 33, 34, 35, 36, 37, 38, 39, 40, 255]);
             let length = random.between(0, 5);
             inside.push(leaf(tag, vec![0; length]));
         }

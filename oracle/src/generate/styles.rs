@@ -4,7 +4,7 @@ use crate::field::{leaf, Field};
 use crate::random::Random;
 use crate::tags::*;
 
-/// The fields of an accepted 16, often of an empty one.
+/// The fields of an accepted 16 that the original has styles for, often of an empty one: all but a 39.
 pub fn styles(random: &mut Random) -> Vec<Field> {
     let mut wanted = random.below(128) as u8;
     match random.below(6) {
@@ -17,13 +17,50 @@ pub fn styles(random: &mut Random) -> Vec<Field> {
     let dropped = random.pick(&[SUBSCRIPT, SUPERSCRIPT]);
     let opaque = wants(OPACITY);
     let mut fields = Vec::new();
-    for tag in COLOUR..=DIM {
+    for tag in STYLE_TAGS.into_iter().filter(|tag| *tag != UNDERLINE) {
         let needed = tag == COLOUR && opaque;
         if (wants(tag) || needed) && !(both && tag == dropped) {
             fields.push(leaf(tag, value(random, tag)));
         }
     }
     fields
+}
+
+/// The fields of any accepted 16, often of one with a 39 alone.
+pub fn any(random: &mut Random) -> Vec<Field> {
+    let mut fields = styles(random);
+    underline_some(random, &mut fields);
+    fields
+}
+
+/// Puts a 39 behind the fields of a 16 or in their place, or leaves them.
+fn underline_some(random: &mut Random, fields: &mut Vec<Field>) {
+    match random.below(6) {
+        0 => *fields = vec![leaf(UNDERLINE, [])],
+        1 | 2 => fields.push(leaf(UNDERLINE, [])),
+        _ => {}
+    }
+}
+
+/// Underlines texts of an accepted tree without 39s that may grow by so many bytes: behind each style, alone, and where no style was.
+pub fn underline(random: &mut Random, fields: &mut [Field], room: &mut usize) {
+    const MOST: usize = 2 * HEADER;
+    for field in fields {
+        match field {
+            Field::Inner(TEXT, parts) if *room >= MOST => {
+                match &mut parts[..] {
+                    [Field::Inner(STYLES, inside), _] => underline_some(random, inside),
+                    _ if random.one_in(6) => {
+                        parts.insert(0, Field::Inner(STYLES, vec![leaf(UNDERLINE, [])]));
+                    }
+                    _ => continue,
+                }
+                *room -= MOST;
+            }
+            Field::Inner(_, inside) => underline(random, inside, room),
+            Field::Leaf(..) | Field::Loose(_) => {}
+        }
+    }
 }
 
 fn value(random: &mut Random, tag: u8) -> Vec<u8> {

@@ -1,15 +1,16 @@
 //! The files that scripts make: a finished one is accepted and the tree asked for; those read off a file, and listings of the original, are known beforehand.
 
 use super::listing::Listing;
-use super::{answer_words, judge_all, place, read_off, Ran, Script, Tally, Unlike};
+use super::{answer_words, judge_all, place, read_off, style, Ran, Script, Tally, Unlike};
 use crate::answers::{Answer, Operation, Request};
 use crate::check::{check, Refusal};
 use crate::compare::Stop;
 use crate::field::{self, Field};
 use crate::generate;
 use crate::hex::hex;
+use crate::original::{self, is_39};
 use crate::random::Random;
-use crate::scribe::{Desk, Scribe};
+use crate::scribe::{Call, Desk, Scribe};
 use crate::shrink::shrink;
 use crate::subject;
 use crate::tags::LARGEST_WIDTH;
@@ -50,7 +51,7 @@ pub fn judge_read_off(
         calls: read_off::calls(random, &fields),
     };
     let whole = gives(scribe, &script, &file, tally)?;
-    judge_lister(scribe, &file)?;
+    judge_lister(scribe, &original::without_39s(&file))?;
     tally.read_off += 1;
     if file.is_empty() {
         return Ok(());
@@ -100,23 +101,32 @@ fn unlike(script: &Script, why: String) -> Stop<Unlike> {
     Stop::Differs(Box::new(Unlike { script, why }))
 }
 
-/// A listing built by the original's own functions and written by steps: the file is the tree, and is laid out and printed as the original does.
+/// A listing built by the original's own functions and written by steps: the file is the tree, with its underlines, and is laid out and printed as
+/// the original does.
 pub fn judge_listing(
     scribe: &mut dyn Scribe,
     random: &mut Random,
     tally: &mut Tally,
 ) -> Result<(), Stop<Unlike>> {
     let listing = Listing::random(random);
-    let file = tree::encode(&listing.tree());
+    let calls = listing.calls(random);
+    let bare = tree::encode(&listing.tree());
+    let file = original::put_back(bare.clone(), &underlined(&calls));
     let script = Script {
         start: Desk::new(file.len() + random.pick(&[0, 0, 1, 50])),
-        calls: listing.calls(random),
+        calls,
     };
     gives(scribe, &script, &file, tally)?;
     tally.listings += 1;
     let width = generate::width(random, file.len()).min(LARGEST_WIDTH);
     printed_alike(scribe, &listing, &file, width).map_err(|why| unlike(&script, why))?;
-    judge_lister(scribe, &file)
+    judge_lister(scribe, &bare)
+}
+
+/// Whether each styled text that the steps ask for is underlined.
+fn underlined(calls: &[Call]) -> Vec<bool> {
+    let styles = calls.iter().filter_map(|call| style::fields(&call.style));
+    styles.map(|fields| fields.iter().any(is_39)).collect()
 }
 
 /// The file laid out, its plain page and its HTML body.
@@ -126,7 +136,10 @@ fn printed_alike(
     file: &[u8],
     width: u16,
 ) -> Result<(), String> {
-    let right = tree::printed(listing.tree(), width);
+    let mut right = tree::printed(listing.tree(), width);
+    let underlined = original::underlined(file);
+    right.laid_out = original::put_back(right.laid_out, &underlined);
+    right.body = original::underline(right.body, &underlined);
     let (_, laid_out) = ask(scribe, Request::layout(width, file.to_vec()))?;
     if laid_out != right.laid_out {
         return Err(format!("laid out otherwise at width {width}"));
@@ -144,14 +157,14 @@ fn printed_alike(
     Ok(())
 }
 
-/// The lister over the tree of an accepted file. A file that fails is made small.
+/// The lister over the tree of an accepted file without 39s, which is what the original has. A file that fails is made small.
 fn judge_lister(scribe: &mut dyn Scribe, file: &[u8]) -> Result<(), Stop<Unlike>> {
     if listed_alike(scribe, file).is_ok() {
         return Ok(());
     }
     let small = shrink(Request::check(file.to_vec()), &mut |tried| {
         let mut files = tried.iter().map(|request| &request.file);
-        files.position(|file| check(file).is_ok() && listed_alike(scribe, file).is_err())
+        files.position(|file| is_tree(file) && listed_alike(scribe, file).is_err())
     });
     let why = listed_alike(scribe, &small.file).err();
     let script = Script {
@@ -160,6 +173,11 @@ fn judge_lister(scribe: &mut dyn Scribe, file: &[u8]) -> Result<(), Stop<Unlike>
     };
     let why = why.unwrap_or("the lister fails, but not each time".into());
     Err(unlike(&script, why))
+}
+
+/// Whether the original has a tree for a file.
+fn is_tree(file: &[u8]) -> bool {
+    check(file).is_ok() && !original::underlined(file).contains(&true)
 }
 
 /// In just enough room it writes the file, and in a byte less it is refused by 10.

@@ -3,6 +3,7 @@
 use super::style;
 use crate::field::{self, Field};
 use crate::generate::{styles, texts};
+use crate::original::is_39;
 use crate::print::pretty::{join_comma_sep, join_space, Fragment, Node, Styles};
 use crate::random::Random;
 use crate::scribe::{Call, Record, UNSTYLED};
@@ -46,7 +47,7 @@ impl Listing {
         Self(pieces)
     }
 
-    /// The tree, made by the original's functions.
+    /// The tree, made by the original's functions, of which underlines are lost.
     pub fn tree(&self) -> Fragment {
         fragment(&self.0)
     }
@@ -123,7 +124,7 @@ impl Plan<'_> {
     fn run(&mut self) -> Run {
         let is_styled = self.random.one_in(3);
         Run {
-            styles: is_styled.then(|| styles::styles(self.random)),
+            styles: is_styled.then(|| styles::any(self.random)),
             text: utf8(texts::text(self.random, 20)),
         }
     }
@@ -134,9 +135,12 @@ fn utf8(text: Vec<u8>) -> String {
 }
 
 impl Run {
+    /// What the original has of it, which is no underline.
     fn original(&self) -> (Option<Styles>, std::borrow::Cow<'static, str>) {
-        let styles = self.styles.as_ref();
-        let styles = styles.map(|fields| tree::styles(&field::encode(fields)));
+        let styles = self.styles.as_ref().map(|fields| {
+            let fields = fields.iter().filter(|field| !is_39(field)).cloned();
+            tree::styles(&field::encode(&fields.collect::<Vec<_>>()))
+        });
         (styles, self.text.clone().into())
     }
 

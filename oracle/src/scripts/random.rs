@@ -194,8 +194,8 @@ fn brought(random: &mut Random, step: u8, faulty: bool) -> Call {
 }
 
 fn any_style(random: &mut Random, faulty: bool) -> Record {
-    let mut record = style::record(&styles::styles(random));
-    for flag in [0, 1, 5, 10, 12, 14, 15, 16] {
+    let mut record = style::record(&styles::any(random));
+    for flag in [0, 1, 5, 10, 12, 14, 15, 16, 17] {
         if record[flag] != 0 && random.one_in(4) {
             record[flag] = random.between(1, 255) as u8;
         }
@@ -209,7 +209,7 @@ fn any_style(random: &mut Random, faulty: bool) -> Record {
         2 => [record[14], record[15]] = [1, 1],
         3 => [record[1], record[5]] = [random.pick(&[0, 0, 1]), 1],
         4 => near_opacity(random, &mut record),
-        _ => record = [(); 17].map(|()| random.byte()),
+        _ => record = UNSTYLED.map(|_| random.byte()),
     }
     record
 }

@@ -5,7 +5,7 @@ use crate::scribe::{Record, UNSTYLED};
 use crate::tags::*;
 
 /// Where the flag of each style field stands in a record, and how long the value behind it is.
-const PARTS: [(u8, usize, usize); 7] = [
+const PARTS: [(u8, usize, usize); 8] = [
     (COLOUR, 1, 3),
     (OPACITY, 5, 4),
     (THICKNESS, 10, 1),
@@ -13,6 +13,7 @@ const PARTS: [(u8, usize, usize); 7] = [
     (SUBSCRIPT, 14, 0),
     (SUPERSCRIPT, 15, 0),
     (DIM, 16, 0),
+    (UNDERLINE, 17, 0),
 ];
 
 /// The fields of the 16 that a record asks for; none if it asks for no 16.
@@ -31,7 +32,7 @@ pub fn record(fields: &[Field]) -> Record {
             continue;
         };
         let part = PARTS.iter().find(|(of, ..)| of == tag);
-        let (_, flag, length) = part.expect("a style field has one of seven tags");
+        let (_, flag, length) = part.expect("a style field has one of eight tags");
         record[*flag] = 1;
         record[flag + 1..][..*length].copy_from_slice(value);
     }

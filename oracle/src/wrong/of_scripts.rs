@@ -263,7 +263,7 @@ fn header_too_soon(desk: &mut Desk, call: &Call) -> u64 {
 }
 
 fn empty_style_lost(desk: &mut Desk, call: &Call) -> u64 {
-    let flags = [1, 5, 10, 12, 14, 15, 16];
+    let flags = [1, 5, 10, 12, 14, 15, 16, 17];
     let is_empty = flags.iter().all(|flag| call.style[*flag] == 0);
     let style = if is_empty { UNSTYLED } else { call.style };
     let call = Call {
