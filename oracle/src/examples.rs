@@ -31,13 +31,7 @@ pub fn all() -> Vec<Example> {
             page.as_bytes(),
         ));
     }
-    let empty = Operation::Document;
-    all.push(page_example(
-        "empty document",
-        empty,
-        Vec::new(),
-        DOCUMENT.as_bytes(),
-    ));
+    all.extend(documents());
     for &(name, file) in ACCEPTED {
         all.push(check_example(name, bytes(file), Answer::Accepted(0)));
     }
@@ -47,6 +41,18 @@ pub fn all() -> Vec<Example> {
     }
     all.extend(built());
     all
+}
+
+/// The document of the empty file, and of one underlined letter.
+fn documents() -> [Example; 2] {
+    let inside = "<span style=\"text-decoration:underline;\">a</span></pre>";
+    let underlined = DOCUMENT.replace("</pre>", inside);
+    let letter = "01000a 100003 270000 110001 61";
+    [
+        ("empty document", "", DOCUMENT),
+        ("E2: an underlined document", letter, &underlined),
+    ]
+    .map(|(name, file, page)| page_example(name, Operation::Document, bytes(file), page.as_bytes()))
 }
 
 /// The examples of a table are part of the source: a slip in one is no user's mistake.

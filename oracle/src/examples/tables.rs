@@ -1,4 +1,4 @@
-//! The tables of examples: document 01's own, its slips, and the settled readings of it.
+//! The tables of examples: document 01's own, its slips, the settled readings of it, and request E2, the underline.
 
 /// Page program's file: `f(`, a tag 4 of `a`, `,`, a space break and `b`, a conditional `,`, then `)`.
 const CALL: &str = "010005 110002 6628
@@ -36,6 +36,13 @@ pub const PRINTED: &[(&str, u16, &str, &[usize], &str)] = &[
     ("slip: the width before a later newline counts, at 4", 4, "04000c 080009 010006 110003 616263 010007 110004 64650a66", &[0], "  abc\nde\nf"),
     ("slip: the width before a later newline counts, at 5", 5, "04000c 080009 010006 110003 616263 010007 110004 64650a66", &[], "abcde\nf"),
     ("slip: the excess of tag 7 is taken off", 1, "04000f 08000c 010004 110001 61 070002 6262", &[], "a"),
+    ("E2: underlined at 2", 2, "040012 08000f 01000c 100003 270000 110003 616263", &[0], "  abc"),
+    ("E2: underlined at 3", 3, "040012 08000f 01000c 100003 270000 110003 616263", &[], "abc"),
+    ("E2: underlined subscript at 2", 2, "040015 080012 01000f 100006 240000 270000 110003 616263", &[0], "  abc"),
+    ("E2: underlined subscript at 3", 3, "040015 080012 01000f 100006 240000 270000 110003 616263", &[], "abc"),
+    ("E2: underlined, size -10 measures 0", 0, "040016 080013 010010 100007 230001 f6 270000 110003 616263", &[], "abc"),
+    ("E2: a block behind an underlined text", 80, "01000a 100003 270000 110001 78 04000c 080009 010006 110003 610a62", &[13], "x\n  a\n  b"),
+    ("E2: space, underlined newline", 80, "010004 110001 61 050000 01000b 100003 270000 110002 0a62", &[], "a \nb"),
 ];
 
 /// Rendered as it stands: name, file, what stands in the body between `pre` tags.
@@ -69,6 +76,19 @@ pub const BODIES: &[(&str, &str, &str)] = &[
     ("order of the style", "010014 10000e 200003 010203 220001 01 230001 05 110000", "<span style=\"color:#010203;font-weight:600;font-size:1.5em;vertical-align:middle;\"></span>"),
     ("escapes", "010008 110005 263c3e2261", "&amp;&lt;>\"a"),
     ("nothing is escaped in an anchor", "020006 120003 263c3e", "<a id=\"&<>\" href=\"#&<>\"></a>"),
+    ("E2: a 39 alone", "010009 100003 270000 110000", "<span style=\"text-decoration:underline;\"></span>"),
+    ("E2: behind a dim", "01000c 100006 260000 270000 110000", "<span style=\"text-decoration:underline;\" class=\"unchanged\"></span>"),
+    ("E2: behind a colour", "01000f 100009 200003 0a0bcf 270000 110000", "<span style=\"color:#0a0bcf;text-decoration:underline;\"></span>"),
+    ("E2: behind a weight", "01000d 100007 220001 01 270000 110000", "<span style=\"font-weight:600;text-decoration:underline;\"></span>"),
+    ("E2: behind a size", "01000d 100007 230001 fe 270000 110000", "<span style=\"font-size:0.8em;vertical-align:middle;text-decoration:underline;\"></span>"),
+    ("E2: behind a subscript", "01000c 100006 240000 270000 110000", "<sub style=\"font-size:0.8em;text-decoration:underline;\"></sub>"),
+    ("E2: behind a superscript", "01000c 100006 250000 270000 110000", "<sup style=\"font-size:0.8em;text-decoration:underline;\"></sup>"),
+    ("E2: behind a size and a subscript", "010010 10000a 230001 05 240000 270000 110000", "<sub style=\"font-size:1.5em;text-decoration:underline;\"></sub>"),
+    ("E2: behind all that may be", "010024 10001e 200003 010203 210004 3f000000 220001 01 230001 05 250000 260000 270000 110000", "<sup style=\"color:rgba(1,2,3,0.5);font-weight:600;font-size:1.5em;text-decoration:underline;\" class=\"unchanged\"></sup>"),
+    ("E2: the second of three texts", "010004 110001 61 010007 100000 110001 62 01000a 100003 270000 110001 63", "a<span>b</span><span style=\"text-decoration:underline;\">c</span>"),
+    ("E2: in an anchor named as a tag", "020027 120006 3c7370616e3e 010004 110001 61 01000a 100003 270000 110001 3c 010007 100000 110001 62", "<a id=\"<span>\" href=\"#<span>\">a<span style=\"text-decoration:underline;\">&lt;</span><span>b</span></a>"),
+    ("E2: in an anchor in a broken block", "030017 080014 020011 130002 753e 010009 100003 270000 110000", "  <a href=\"#u>\"><span style=\"text-decoration:underline;\"></span></a>"),
+    ("E2: two lines in a broken block", "030012 08000f 01000c 100003 270000 110003 610a62", "  <span style=\"text-decoration:underline;\">a\n  b</span>"),
 ];
 
 /// Accepted by the check: name, file.
@@ -80,6 +100,10 @@ pub const ACCEPTED: &[(&str, &str)] = &[
     ("reading 8: opacity +0", "010013 10000d 200003 000000 210004 00000000 110000"),
     ("empty blocks", "030000 040000"),
     ("empty anchor name", "020003 120000"),
+    ("E2: a 39 alone", "010009 100003 270000 110000"),
+    ("E2: a 39 behind a 38", "01000c 100006 260000 270000 110000"),
+    ("E2: a 39 behind a 32", "01000f 100009 200003 cc5544 270000 110000"),
+    ("E2: a 39 in a run of an anchor", "02000f 120000 010009 100003 270000 110000"),
 ];
 
 /// Refused by the check: name, file, number, place.
@@ -128,6 +152,19 @@ pub const REFUSED: &[(&str, &str, u8, usize)] = &[
     ("a fixed length before the range", "01000b 100005 230002 7f7f 110000", 5, 6),
     ("a cut fragment", "030003 080001", 3, 3),
     ("UTF-8 before the quote", "020005 130002 2280", 7, 3),
+    ("E2: a 39 with a value", "01000a 100004 270001 00 110000", 5, 6),
+    ("E2: a 39 whose value runs over", "010009 100003 270001 110000", 3, 6),
+    ("E2: a repeated 39", "01000c 100006 270000 270000 110000", 4, 9),
+    ("E2: a 38 behind a 39", "01000c 100006 270000 260000 110000", 4, 9),
+    ("E2: a 32 behind a 39", "01000f 100009 270000 200003 cc5544 110000", 4, 9),
+    ("E2: a tag 40", "010009 100003 280000 110000", 4, 6),
+    ("E2: a tag 40 behind a 39", "01000c 100006 270000 280000 110000", 4, 9),
+    ("E2: a 39 at the root", "270000", 4, 0),
+    ("E2: a 39 where the 17 should stand", "010003 270000", 4, 3),
+    ("E2: a 39 behind the 17", "010006 110000 270000", 4, 6),
+    ("E2: a 39 with a value before the missing colour", "010011 10000b 210004 3f000000 270001 00 110000", 5, 13),
+    ("E2: opacity without colour, underlined", "010010 10000a 210004 3f000000 270000 110000", 8, 3),
+    ("E2: both scripts, underlined", "01000f 100009 240000 250000 270000 110000", 8, 3),
 ];
 
 /// The opening of a body.
