@@ -2,6 +2,7 @@
 
 mod of_pairs;
 mod of_scripts;
+mod of_underlines;
 mod of_words;
 
 use crate::answers::{answer, page_outcome, rendered, Answer, Operation, Outcome, Request, LENT};
@@ -61,7 +62,8 @@ const OF_MASKS: [Row; 4] = [
 ];
 
 pub fn all() -> Vec<Wrong> {
-    ALL.into_iter().map(Wrong::new).collect()
+    let rows = ALL.into_iter().chain(of_underlines::ROWS);
+    rows.map(Wrong::new).collect()
 }
 
 pub fn of_masks() -> Vec<Wrong> {
@@ -109,17 +111,27 @@ fn missing_misplaced(request: &Request) -> Outcome {
     said
 }
 
-/// Lays out with each conditional text replaced by a plain one, which has no excess.
+/// Each conditional text is replaced by a plain one, which has no excess.
 fn excess_forgotten(request: &Request) -> Outcome {
+    laid_out_as(request, |field| match field {
+        Field::Leaf(IF_BLOCK_LAYOUT, value) if !value.contains(&b'\n') => {
+            Some(field::text(&value[..]))
+        }
+        _ => None,
+    })
+}
+
+/// Lays out other fields than those of the file, in which the blocks are the same, and changes its tags accordingly.
+fn laid_out_as(request: &Request, by: fn(&Field) -> Option<Field>) -> Outcome {
     let mut right = answer(request);
     let Answer::Accepted(count) = &mut right.answer else {
         return right;
     };
-    let plain = Request {
-        file: field::encode(&without_tag_7(&field::parse(&request.file))),
+    let other = Request {
+        file: field::encode(&replaced(&field::parse(&request.file), by)),
         ..request.clone()
     };
-    let said = answer(&plain);
+    let said = answer(&other);
     let Answer::Accepted(changed) = said.answer else {
         return right;
     };
@@ -129,15 +141,6 @@ fn excess_forgotten(request: &Request) -> Outcome {
         right.lent[place] = said.lent[from];
     }
     right
-}
-
-fn without_tag_7(fields: &[Field]) -> Vec<Field> {
-    replaced(fields, |field| match field {
-        Field::Leaf(IF_BLOCK_LAYOUT, value) if !value.contains(&b'\n') => {
-            Some(field::text(&value[..]))
-        }
-        _ => None,
-    })
 }
 
 /// The fields with another in place of each, at any depth, for which there is one.

@@ -19,7 +19,7 @@ type Makes = fn(&mut Desk, &Call) -> u64;
 type Row = (&'static str, usize, Makes);
 
 #[rustfmt::skip] // one row, one line
-const ALL: [Row; 16] = [
+const ALL: [Row; 17] = [
     ("a comma join's last entry ends without its 7", 4, last_comma_lost),
     ("the 5 comes before the comma", 4, space_before_comma),
     ("a comma join with no entries loses its block", 3, empty_join_lost),
@@ -34,6 +34,7 @@ const ALL: [Row; 16] = [
     ("closing does not lead back to the field around", 5, link_lost),
     ("an open header tells its length", 4, header_too_soon),
     ("an empty style is left out", 4, empty_style_lost),
+    ("an underline is left out", 4, underline_lost),
     ("a file is finished with a field open", 3, finished_open),
     ("a link that leads on is followed", 3, link_followed),
 ];
@@ -270,6 +271,12 @@ fn empty_style_lost(desk: &mut Desk, call: &Call) -> u64 {
         style,
         ..call.clone()
     };
+    made_right(desk, &call)
+}
+
+fn underline_lost(desk: &mut Desk, call: &Call) -> u64 {
+    let mut call = call.clone();
+    call.style[17] = 0;
     made_right(desk, &call)
 }
 

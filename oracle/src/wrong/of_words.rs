@@ -2,6 +2,7 @@
 
 use super::{replaced, Row};
 use crate::answers::{answer, page_outcome, rendered, Answer, Operation, Outcome, Request};
+use crate::check::check;
 use crate::field::{self, Field};
 use crate::tags::*;
 
@@ -31,11 +32,12 @@ fn text_blotted(request: &Request) -> Outcome {
     said
 }
 
-/// Shows other fields than those of the file, if it is this page that is asked for. A file that would grow
-/// too long is shown as it is: to refuse it would be another fault.
-fn shows(request: &Request, page: Operation, by: fn(&Field) -> Option<Field>) -> Outcome {
+/// Shows other fields than those of the file, if it is this page that is asked for. A file that is refused, or would grow
+/// too long, is answered right: what then differed would be another fault.
+pub fn shows(request: &Request, page: Operation, by: fn(&Field) -> Option<Field>) -> Outcome {
     let shown = field::encode(&replaced(&field::parse(&request.file), by));
-    if request.operation != page || shown.len() > LONGEST_FILE {
+    let other = check(&request.file).is_ok() && shown.len() <= LONGEST_FILE;
+    if request.operation != page || !other {
         return answer(request);
     }
     page_outcome(&rendered(page, &shown), request.room)
