@@ -6,7 +6,7 @@ mod writing;
 use crate::answers::{answer, rendered, Answer, Operation, Request};
 use crate::check::check;
 use crate::compare::{self, Disagreement, Stop, Tally};
-use crate::damage::noise;
+use crate::damage::every;
 use crate::examples;
 use crate::extent::Extent;
 use crate::folder;
@@ -239,7 +239,7 @@ fn run_lines(options: &Options) -> Result<ExitCode, Mistake> {
     eprintln!("seed {seed}");
     let random = (0..files).map(|index| compare::any_file(&mut Random::new(seed, index)));
     let mut out = io::BufWriter::new(io::stdout().lock());
-    for file in noise::all_short().chain(random) {
+    for file in every::files().chain(random) {
         match writeln!(out, "{} {}", hex(&file), said_of(&file)) {
             Err(e) if e.kind() == io::ErrorKind::BrokenPipe => break,
             done => done.map_err(|e| e.to_string())?,
@@ -332,15 +332,15 @@ fn stopped<D>(stop: Stop<D>, words: fn(&D) -> String) -> Result<ExitCode, Mistak
     }
 }
 
-/// All short files, then the random ones.
+/// All small files, then the random ones.
 fn compare_all(
     subject: &mut dyn Subject,
     parts: &[Operation],
     seed: u64,
     extent: Extent,
 ) -> Result<(), Stop> {
-    let short = compare::run_short(subject, parts)?;
-    println!("short files: {}", tally_words(&short));
+    let small = compare::run_small(subject, parts)?;
+    println!("small files: {}", tally_words(&small));
     let start = Instant::now();
     let random = compare::run(subject, parts, seed, extent)?;
     let rate = per_minute(random.files, start);

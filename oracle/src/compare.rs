@@ -2,7 +2,7 @@
 
 use crate::answers::{self, Asked, Operation, Outcome, Request, Right};
 use crate::check::{check, Refusal};
-use crate::damage::{self, noise};
+use crate::damage::{self, every};
 use crate::extent::Extent;
 use crate::field;
 use crate::generate;
@@ -64,11 +64,11 @@ pub fn run(
     run_over(random, subject, parts)
 }
 
-/// Asks for all short files over the two alphabets.
-pub fn run_short(subject: &mut dyn Subject, parts: &[Operation]) -> Result<Tally, Stop> {
-    let short = noise::all_short().enumerate();
-    let short = short.map(|(index, file)| (Random::new(0, index as u64), file));
-    run_over(short, subject, parts)
+/// Asks for all small files of some kinds.
+pub fn run_small(subject: &mut dyn Subject, parts: &[Operation]) -> Result<Tally, Stop> {
+    let small = every::files().enumerate();
+    let small = small.map(|(index, file)| (Random::new(0, index as u64), file));
+    run_over(small, subject, parts)
 }
 
 /// Asks for the files, each with what chooses its widths and rooms.

@@ -1,5 +1,6 @@
 //! Damaged files: accepted ones with something wrong, and plain noise.
 
+pub mod every;
 pub mod noise;
 pub mod styles;
 
