@@ -3,14 +3,17 @@
 use crate::answers::{answer, rendered, Operation, Request};
 use crate::check::check;
 use crate::damage;
+use crate::damage::styles::{BadEnd, BAD_ENDS};
 use crate::examples;
-use crate::field;
+use crate::field::{self, leaf, Field};
 use crate::generate;
+use crate::original;
 use crate::random::Random;
-use crate::tags::LONGEST_FILE;
+use crate::tags::{COLOUR, LONGEST_FILE};
 use crate::wire;
 use std::collections::HashSet;
 use std::fs;
+use std::iter;
 use std::path::Path;
 
 /// Changing it changes every recorded case.
@@ -53,8 +56,9 @@ fn put(file: &Path, bytes: &[u8]) -> Result<(), String> {
 /// Every example first, then small accepted and damaged files.
 fn cases() -> Vec<Request> {
     let mut cases: Vec<Request> = examples::all().into_iter().map(|e| e.request).collect();
-    cases.extend(accepted_files().into_iter().flat_map(requests_for_accepted));
+    cases.extend(accepted_files().flat_map(requests_for_accepted));
     cases.extend(refused_files().into_iter().flat_map(requests_for_refused));
+    cases.extend(BAD_ENDS.into_iter().flat_map(requests_for_bad_end));
     // Over-long files only where their answers are short.
     cases.retain(|case| case.operation == Operation::Check || case.file.len() <= LONGEST_FILE);
     let mut seen = HashSet::new();
@@ -62,20 +66,37 @@ fn cases() -> Vec<Request> {
     cases
 }
 
+/// So many accepted files have no 39, and so many have one.
+const WITHOUT_39S: usize = 120;
+const WITH_39S: usize = 20;
+
 /// Files of up to 120 bytes, and a handful of up to 700, numbered.
-fn accepted_files() -> Vec<(usize, Vec<u8>)> {
-    let mut files = Vec::new();
-    let mut index = 0;
-    while files.len() < 120 {
-        let mut random = Random::new(SEED, index);
-        index += 1;
-        let file = field::encode(&generate::fields(&mut random));
-        let longest = if files.len() % 20 == 19 { 700 } else { 120 };
-        if (longest / 12..longest).contains(&file.len()) {
-            files.push((files.len(), file));
-        }
-    }
-    files
+fn accepted_files() -> impl Iterator<Item = (usize, Vec<u8>)> {
+    let bare = random_files(SEED, generate::fields_without_39s);
+    let bare = fitting(bare).take(WITHOUT_39S);
+    let underlined = random_files(SEED + 3, generate::fields);
+    let underlined = underlined.filter(|file| is_underlined(file));
+    let underlined = fitting(underlined).take(WITH_39S);
+    bare.chain(underlined).enumerate()
+}
+
+fn random_files(seed: u64, fields: fn(&mut Random) -> Vec<Field>) -> impl Iterator<Item = Vec<u8>> {
+    (0..).map(move |index| field::encode(&fields(&mut Random::new(seed, index))))
+}
+
+/// Those of up to 120 bytes, and each twentieth of up to 700.
+fn fitting(files: impl Iterator<Item = Vec<u8>>) -> impl Iterator<Item = Vec<u8>> {
+    let mut found = 0;
+    files.filter(move |file| {
+        let longest = if found % 20 == 19 { 700 } else { 120 };
+        let fits = (longest / 12..longest).contains(&file.len());
+        found += usize::from(fits);
+        fits
+    })
+}
+
+fn is_underlined(file: &[u8]) -> bool {
+    original::underlined(file).contains(&true)
 }
 
 /// Twelve files for each refusal number from 3 to 9, all but a few small.
@@ -117,7 +138,7 @@ fn requests_for_accepted((number, file): (usize, Vec<u8>)) -> Vec<Request> {
         requests.push(page(&mut random, Operation::Plain, file));
     }
     requests.push(page(&mut random, Operation::Body, laid_out.clone()));
-    if number % 30 == 7 {
+    if number % 30 == 7 || number == WITHOUT_39S {
         requests.push(page(&mut random, Operation::Document, laid_out));
     }
     requests
@@ -133,6 +154,19 @@ fn page(random: &mut Random, operation: Operation, file: Vec<u8>) -> Request {
         _ => length,
     };
     Request::page(operation, room, file)
+}
+
+/// A badly ended style behind a good text, in every operation.
+fn requests_for_bad_end(end: BadEnd) -> [Request; 5] {
+    let style = iter::once(leaf(COLOUR, [1, 2, 3])).chain(end.fields());
+    let bad = field::styled(style.collect(), b"b");
+    let file = field::encode(&[field::text(b"a"), bad]);
+    Operation::ALL.map(|operation| Request {
+        operation,
+        width: 2 * u16::from(operation == Operation::Layout),
+        room: 3 * usize::from(operation.is_page()),
+        file: file.clone(),
+    })
 }
 
 /// The check of each, and one other operation: layout at a good or bad width, or a page.
