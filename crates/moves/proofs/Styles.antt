@@ -45,7 +45,8 @@ style-rises st s =
     (rising-with (st .«has_size») 34 35 _ _ refl refl refl
     (rising-with (st .subscript) 35 36 _ _ refl refl refl
     (rising-with (st .superscript) 36 37 _ _ refl refl refl
-    (rising-with (st .dim) 37 38 _ _ refl refl refl tt))))))
+    (rising-with (st .dim) 37 38 _ _ refl refl refl
+    (rising-with (st .underline) 38 39 _ _ refl refl refl tt)))))))
 
 -- ---- and the other way round: fields that rise, one tag after the other
 
@@ -154,8 +155,9 @@ fields-back i k =
     (field-one (bytes-of 35 i) 35 _ (λ n. refl) (w 35) ∙ ap (with-value (bytes-of 35 i) 35)
     (field-none (bytes-of 36 i) 36 _ (λ n. refl) (w 36) ∙ ap (with-value (bytes-of 36 i) 36)
     (field-none (bytes-of 37 i) 37 _ (λ n. refl) (w 37) ∙ ap (with-value (bytes-of 37 i) 37)
-    (field-none (bytes-of 38 i) 38 _ (λ n. refl) (w 38)))))))
-    ∙ rebuilds 7 31 i refl (rising-from i 0 31 (λ t _ l. l) k)
+    (field-none (bytes-of 38 i) 38 _ (λ n. refl) (w 38) ∙ ap (with-value (bytes-of 38 i) 38)
+    (field-none (bytes-of 39 i) 39 _ (λ n. refl) (w 39))))))))
+    ∙ rebuilds 8 31 i refl (rising-from i 0 31 (λ t _ l. l) k)
 
 -- A STYLE COMES BACK FROM ITS RECORD
 pub style-back : (i : Option (Fields ℕ)) → Formed-style i → style-of (style-record i) ≡ i

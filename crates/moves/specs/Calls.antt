@@ -61,6 +61,7 @@ no-style = record {
   subscript = false;
   superscript = false;
   dim = false;
+  underline = false;
 }
 
 unfoldable pub style-record : Option (Fields ℕ) → Style
@@ -78,6 +79,7 @@ style-record (some i) = record {
   subscript = is-some (bytes-of 36 i);
   superscript = is-some (bytes-of 37 i);
   dim = is-some (bytes-of 38 i);
+  underline = is-some (bytes-of 39 i);
 }
 
 -- ---- calls

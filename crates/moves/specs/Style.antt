@@ -23,7 +23,8 @@ style-fields st =
     (with-field (st .«has_size») 35 (st .size ∷ [])
     (with-field (st .subscript) 36 []
     (with-field (st .superscript) 37 []
-    (with-field (st .dim) 38 [] end))))))
+    (with-field (st .dim) 38 []
+    (with-field (st .underline) 39 [] end)))))))
 
 unfoldable pub there : {A : Type 0} → Bool → A → Option A
 there true a = some a
@@ -59,7 +60,7 @@ value-parts st =
     ++ (part (st .«has_thickness») 34 (st .thickness ∷ []) ++ part (st .«has_size») 35 (st .size ∷ [])))
 
 unfoldable pub flag-parts : Style → List ℕ
-flag-parts st = part (st .subscript) 36 [] ++ (part (st .superscript) 37 [] ++ part (st .dim) 38 [])
+flag-parts st = part (st .subscript) 36 [] ++ (part (st .superscript) 37 [] ++ (part (st .dim) 38 [] ++ part (st .underline) 39 []))
 
 unfoldable pub style-bytes : Style → List ℕ
 style-bytes st = encode-fields (style-fields st)

@@ -68,6 +68,7 @@ pub struct Style {
     pub subscript: bool,
     pub superscript: bool,
     pub dim: bool,
+    pub underline: bool,
 }
 
 // A refusal's number and place, or the write position after the step; of the last step, the file's length.
