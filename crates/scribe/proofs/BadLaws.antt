@@ -26,22 +26,22 @@ no-tags n = refl
 
 has-colour : (st : Style) → has 32 (tags (style-fields st)) ≡ st .«has_colour»
 unfolding style-fields
-has-colour st = found 32 refl _ _ _ (passed 32 33 refl _ _ _ ∙ passed 32 34 refl _ _ _ ∙ passed 32 35 refl _ _ _ ∙ passed 32 36 refl _ _ _ ∙ passed 32 37 refl _ _ _ ∙ passed 32 38 refl _ _ _ ∙ no-tags 32)
+has-colour st = found 32 refl _ _ _ (passed 32 33 refl _ _ _ ∙ passed 32 34 refl _ _ _ ∙ passed 32 35 refl _ _ _ ∙ passed 32 36 refl _ _ _ ∙ passed 32 37 refl _ _ _ ∙ passed 32 38 refl _ _ _ ∙ passed 32 39 refl _ _ _ ∙ no-tags 32)
 
 has-opacity : (st : Style) → has 33 (tags (style-fields st)) ≡ st .«has_opacity»
 unfolding style-fields
 has-opacity st =
-    passed 33 32 refl _ _ _ ∙ found 33 refl _ _ _ (passed 33 34 refl _ _ _ ∙ passed 33 35 refl _ _ _ ∙ passed 33 36 refl _ _ _ ∙ passed 33 37 refl _ _ _ ∙ passed 33 38 refl _ _ _ ∙ no-tags 33)
+    passed 33 32 refl _ _ _ ∙ found 33 refl _ _ _ (passed 33 34 refl _ _ _ ∙ passed 33 35 refl _ _ _ ∙ passed 33 36 refl _ _ _ ∙ passed 33 37 refl _ _ _ ∙ passed 33 38 refl _ _ _ ∙ passed 33 39 refl _ _ _ ∙ no-tags 33)
 
 has-subscript : (st : Style) → has 36 (tags (style-fields st)) ≡ st .subscript
 unfolding style-fields
 has-subscript st =
-    passed 36 32 refl _ _ _ ∙ passed 36 33 refl _ _ _ ∙ passed 36 34 refl _ _ _ ∙ passed 36 35 refl _ _ _ ∙ found 36 refl _ _ _ (passed 36 37 refl _ _ _ ∙ passed 36 38 refl _ _ _ ∙ no-tags 36)
+    passed 36 32 refl _ _ _ ∙ passed 36 33 refl _ _ _ ∙ passed 36 34 refl _ _ _ ∙ passed 36 35 refl _ _ _ ∙ found 36 refl _ _ _ (passed 36 37 refl _ _ _ ∙ passed 36 38 refl _ _ _ ∙ passed 36 39 refl _ _ _ ∙ no-tags 36)
 
 has-superscript : (st : Style) → has 37 (tags (style-fields st)) ≡ st .superscript
 unfolding style-fields
 has-superscript st =
-    passed 37 32 refl _ _ _ ∙ passed 37 33 refl _ _ _ ∙ passed 37 34 refl _ _ _ ∙ passed 37 35 refl _ _ _ ∙ passed 37 36 refl _ _ _ ∙ found 37 refl _ _ _ (passed 37 38 refl _ _ _ ∙ no-tags 37)
+    passed 37 32 refl _ _ _ ∙ passed 37 33 refl _ _ _ ∙ passed 37 34 refl _ _ _ ∙ passed 37 35 refl _ _ _ ∙ passed 37 36 refl _ _ _ ∙ found 37 refl _ _ _ (passed 37 38 refl _ _ _ ∙ passed 37 39 refl _ _ _ ∙ no-tags 37)
 
 -- ---- what its values are asked
 

@@ -26,10 +26,10 @@ pub values-length : (st : Style) {a b c d : ℕ} → a ≡ part-size (st .«has_
 unfolding value-parts
 values-length st p q r s = simp (length-append, part-length, p, q, r, s) (omega arith)
 
-pub flags-length : (st : Style) {a b c : ℕ} → a ≡ part-size (st .subscript) 0 → b ≡ part-size (st .superscript) 0 → c ≡ part-size (st .dim) 0
-    → a + b + c ≡ length (flag-parts st)
+pub flags-length : (st : Style) {a b c d : ℕ} → a ≡ part-size (st .subscript) 0 → b ≡ part-size (st .superscript) 0 → c ≡ part-size (st .dim) 0
+    → d ≡ part-size (st .underline) 0 → a + b + c + d ≡ length (flag-parts st)
 unfolding flag-parts
-flags-length st p q r = simp (length-append, part-length, p, q, r) (omega arith)
+flags-length st p q r s = simp (length-append, part-length, p, q, r, s) (omega arith)
 
 pub fields-length : (st : Style) → length (style-bytes st) ≡ length (value-parts st) + length (flag-parts st)
 fields-length st = ap length (style-parts st) ∙ length-append (value-parts st) (flag-parts st)

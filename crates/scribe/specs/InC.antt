@@ -30,7 +30,7 @@ last-step = 19
 abbrev pub flag : List ℕ → ℕ → Bool
 flag s i = not (eqb (getD s i 0) 0)
 
--- the style that 17 bytes say
+-- the style that 18 bytes say
 unfoldable pub style-in : List ℕ → Style
 style-in s = record {
   styled = flag s 0;
@@ -45,6 +45,7 @@ style-in s = record {
   subscript = flag s 14;
   superscript = flag s 15;
   dim = flag s 16;
+  underline = flag s 17;
 }
 
 -- what the C name leaves: its answer in one number, the buffer, the writer's two numbers

@@ -46,8 +46,8 @@ pub fn numbered(step: u8) -> Op
     }
 }
 
-// The style that 17 bytes say: a flag is set where its byte is not 0.
-pub fn style_in(s: &[u8; 17]) -> Style
+// The style that 18 bytes say: a flag is set where its byte is not 0.
+pub fn style_in(s: &[u8; 18]) -> Style
     ensures { λ r. ⌜ r ≡ style-in (now (s .entry)) ⌝ }
 {
     let colour = [s[2], s[3], s[4]];
@@ -65,6 +65,7 @@ pub fn style_in(s: &[u8; 17]) -> Style
         subscript: s[14] != 0,
         superscript: s[15] != 0,
         dim: s[16] != 0,
+        underline: s[17] != 0,
     }
 }
 

@@ -1,4 +1,4 @@
-// What a text's style says, as a writer is given it: the values of fields 32 to 38 as the file has them, each beside its flag.
+// What a text's style says, as a writer is given it: the values of fields 32 to 39 as the file has them, each beside its flag.
 use crate::put::put_field;
 use crate::put::put_header;
 use moves::Style;
@@ -34,16 +34,16 @@ fn values_size(st: Style) -> usize
     a + b + c + part_size(st.has_size, &size)
 }
 
-// The bytes of the fields 36 to 38.
+// The bytes of the fields 36 to 39.
 fn flags_size(st: Style) -> usize
-    ensures { λ r. ⌜ (r ≡ length (flag-parts st)) × (r ≤ 21) ⌝ }
+    ensures { λ r. ⌜ (r ≡ length (flag-parts st)) × (r ≤ 28) ⌝ }
 {
-    part_size(st.subscript, b"") + part_size(st.superscript, b"") + part_size(st.dim, b"")
+    part_size(st.subscript, b"") + part_size(st.superscript, b"") + part_size(st.dim, b"") + part_size(st.underline, b"")
 }
 
 // The bytes of the field 16, or 0 where there is no style.
 pub fn style_size(st: Style) -> usize
-    ensures { λ r. ⌜ (r ≡ style-size st) × (r ≤ 52) ⌝ }
+    ensures { λ r. ⌜ (r ≡ style-size st) × (r ≤ 59) ⌝ }
 {
     if st.styled {
         return 3 + values_size(st) + flags_size(st);
@@ -76,13 +76,14 @@ fn put_values(page: &mut [u8], at: usize, st: Style) -> usize
     put_part(page, c, st.has_size, 35, &size)
 }
 
-// The fields 36 to 38, which are empty.
+// The fields 36 to 39, which are empty.
 fn put_flags(page: &mut [u8], at: usize, st: Style) -> usize
     ensures { λ r. ⌜ Written (now (page .entry)) at (flag-parts st) (now (page .exit)) r ⌝ }
 {
     let a = put_part(page, at, st.subscript, 36, b"");
     let b = put_part(page, a, st.superscript, 37, b"");
-    put_part(page, b, st.dim, 38, b"")
+    let c = put_part(page, b, st.dim, 38, b"");
+    put_part(page, c, st.underline, 39, b"")
 }
 
 // The field 16, where there is a style.
