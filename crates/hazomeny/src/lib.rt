@@ -134,7 +134,7 @@ pub fn text_of_pair<'a>(original: &'a [u8], mask: &'a [u8], place: usize, names:
 }
 
 // Any step, whatever stands in its way. A number that is no step's is refused by 11.
-fn any_step(file: &mut [u8], state: &mut [u32; 2], step: u8, style: &[u8; 17], text: &[u8]) -> u64
+fn any_step(file: &mut [u8], state: &mut [u32; 2], step: u8, style: &[u8; 18], text: &[u8]) -> u64
     ensures { λ r. ⌜ Leaves r (now (file .exit)) (now (state .exit)) (write-in-c step (now (style .entry)) (now (text .entry)) (now (file .entry)) (now (state .entry))) ⌝ }
 {
     let at = from_state(state[0]);
@@ -156,7 +156,7 @@ pub extern "C" fn hazomeny_write(
     file: &mut [u8],
     state: &mut [u32; 2],
     step: u8,
-    style: &[u8; 17],
+    style: &[u8; 18],
     text: &[u8],
 ) -> u64
     ensures { λ r. ⌜ Leaves r (now (file .exit)) (now (state .exit)) (write-in-c step (now (style .entry)) (now (text .entry)) (now (file .entry)) (now (state .entry))) ⌝ }

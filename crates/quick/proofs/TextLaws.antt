@@ -70,7 +70,7 @@ no-part s e = (rw e, no-style-fault (style-in s) (rw e))
 
 pub colour-part : (s : List ℕ) → flag s 0 ≡ true → ColourAlone s → style-part (style-in s) ≡ 16 ∷ 0 ∷ 6 ∷ 32 ∷ 0 ∷ 3 ∷ getD s 2 0 ∷ getD s 3 0 ∷ getD s 4 0 ∷ []
 unfolding style-in style-part part style-bytes style-fields with-field encode-fields field
-colour-part s e c = rw (e, c .colour, c .no-opacity, c .no-thickness, c .no-size, c .no-subscript, c .no-superscript, c .not-dim)
+colour-part s e c = rw (e, c .colour, c .no-opacity, c .no-thickness, c .no-size, c .no-subscript, c .no-superscript, c .not-dim, c .not-underlined)
 
 pub colour-sound : (s : List ℕ) → flag s 0 ≡ true → ColourAlone s → first-fault (style-checks (style-of (style-in s))) ≡ 0
 unfolding style-in bad-style
@@ -81,13 +81,14 @@ neither : (a b : ℕ) → bitOr a b ≡ 0 → (a ≡ 0) × (b ≡ 0)
 neither a b e = (omega (arith, e, or-above-l a b), omega (arith, e, or-above-r a b))
 
 pub colour-alone : (s : List ℕ) → (getD s 1 0 ≡ 0 → ⊥)
-    → eqb (bitOr (bitOr (bitOr (bitOr (bitOr (getD s 5 0) (getD s 10 0)) (getD s 12 0)) (getD s 14 0)) (getD s 15 0)) (getD s 16 0)) 0 ≡ true → ColourAlone s
+    → eqb (bitOr (bitOr (bitOr (bitOr (bitOr (bitOr (getD s 5 0) (getD s 10 0)) (getD s 12 0)) (getD s 14 0)) (getD s 15 0)) (getD s 16 0)) (getD s 17 0)) 0 ≡ true → ColourAlone s
 colour-alone s h e =
-    let (e₁, f) = neither _ (getD s 16 0) (eqb-true _ _ e) in
-    let (e₂, g) = neither _ (getD s 15 0) e₁ in
-    let (e₃, i) = neither _ (getD s 14 0) e₂ in
-    let (e₄, j) = neither _ (getD s 12 0) e₃ in
-    let (k, l) = neither (getD s 5 0) (getD s 10 0) e₄ in
+    let (e₁, u) = neither _ (getD s 17 0) (eqb-true _ _ e) in
+    let (e₂, f) = neither _ (getD s 16 0) e₁ in
+    let (e₃, g) = neither _ (getD s 15 0) e₂ in
+    let (e₄, i) = neither _ (getD s 14 0) e₃ in
+    let (e₅, j) = neither _ (getD s 12 0) e₄ in
+    let (k, l) = neither (getD s 5 0) (getD s 10 0) e₅ in
     record {
       colour = is-set (getD s 1 0) h;
       no-opacity = rw k;
@@ -96,4 +97,5 @@ colour-alone s h e =
       no-subscript = rw i;
       no-superscript = rw g;
       not-dim = rw f;
+      not-underlined = rw u;
     }

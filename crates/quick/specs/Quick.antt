@@ -35,7 +35,7 @@ PutsText r b b′ at top st t = (a : Bool) → a ≡ true → first-fault (text-
 abbrev pub OpensNamed : Spot → (b b′ : List ℕ) (at top : ℕ) (allowed : Bool) (w : List ℕ) (asked : List Check) → Type 0
 OpensNamed r b b′ at top a w cs = (x : Piece) (st : Style) (t : List ℕ) → piece-bytes x st t ≡ w → piece-checks x st t ≡ cs → Quickly r b b′ at top (opens a piece.Nothing 0 224 x) st t
 
--- of the 17 bytes of a style: a colour, and nothing beside it
+-- of the 18 bytes of a style: a colour, and nothing beside it
 pub record ColourAlone (s : List ℕ) : Type 0 where
   pub colour : flag s 1 ≡ true
   pub no-opacity : flag s 5 ≡ false
@@ -44,3 +44,4 @@ pub record ColourAlone (s : List ℕ) : Type 0 where
   pub no-subscript : flag s 14 ≡ false
   pub no-superscript : flag s 15 ≡ false
   pub not-dim : flag s 16 ≡ false
+  pub not-underlined : flag s 17 ≡ false

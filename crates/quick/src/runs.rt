@@ -26,7 +26,7 @@ ghost use Rattle.quick.specs.Quick.{Quickly, PutsText, ColourAlone};
 // A text's node, of the field 16 that its style is, or of nothing, and the text.
 fn node(buf: &mut [u8], at: usize, top: usize, style: &[u8], v: &[u8]) -> Spot
     requires { ⌜ sane (length (now buf)) at top ≡ true ⌝ }
-    requires { ⌜ length (now style) ≤ 52 ⌝ }
+    requires { ⌜ length (now style) ≤ 59 ⌝ }
     ensures { λ r. ⌜ ((st : Style) → style-part st ≡ now (style .entry) → first-fault (style-checks (style-of st)) ≡ 0 → PutsText r (now (buf .entry)) (now (buf .exit)) at top st (now (v .entry))) ⌝ }
 {
     if !has_room(buf.len(), at, 6 + style.len(), v.len()) {
@@ -39,17 +39,17 @@ fn node(buf: &mut [u8], at: usize, top: usize, style: &[u8], v: &[u8]) -> Spot
 }
 
 // A colour is all that the style says.
-fn is_colour(s: &[u8; 17]) -> bool
+fn is_colour(s: &[u8; 18]) -> bool
     ensures { λ r. ⌜ (r ≡ true → ColourAlone (now (s .entry))) ⌝ }
 {
     if s[1] == 0 {
         return false;
     }
-    (s[5] | s[10] | s[12] | s[14] | s[15] | s[16]) == 0
+    (s[5] | s[10] | s[12] | s[14] | s[15] | s[16] | s[17]) == 0
 }
 
 // A text whose style is a colour.
-fn coloured(buf: &mut [u8], at: usize, top: usize, s: &[u8; 17], v: &[u8]) -> Spot
+fn coloured(buf: &mut [u8], at: usize, top: usize, s: &[u8; 18], v: &[u8]) -> Spot
     requires { ⌜ sane (length (now buf)) at top ≡ true ⌝ }
     requires { ⌜ (flag (now s) 0 ≡ true) × ColourAlone (now s) ⌝ }
     ensures { λ r. ⌜ PutsText r (now (buf .entry)) (now (buf .exit)) at top (style-in (now (s .entry))) (now (v .entry)) ⌝ }
@@ -59,7 +59,7 @@ fn coloured(buf: &mut [u8], at: usize, top: usize, s: &[u8; 17], v: &[u8]) -> Sp
 }
 
 // A text with any style.
-fn styled(buf: &mut [u8], at: usize, top: usize, s: &[u8; 17], v: &[u8]) -> Spot
+fn styled(buf: &mut [u8], at: usize, top: usize, s: &[u8; 18], v: &[u8]) -> Spot
     requires { ⌜ sane (length (now buf)) at top ≡ true ⌝ }
     ensures { λ r. ⌜ PutsText r (now (buf .entry)) (now (buf .exit)) at top (style-in (now (s .entry))) (now (v .entry)) ⌝ }
 {
@@ -75,7 +75,7 @@ fn styled(buf: &mut [u8], at: usize, top: usize, s: &[u8; 17], v: &[u8]) -> Spot
 }
 
 // A text by what its style says.
-fn by_style(buf: &mut [u8], at: usize, top: usize, s: &[u8; 17], v: &[u8]) -> Spot
+fn by_style(buf: &mut [u8], at: usize, top: usize, s: &[u8; 18], v: &[u8]) -> Spot
     requires { ⌜ sane (length (now buf)) at top ≡ true ⌝ }
     ensures { λ r. ⌜ PutsText r (now (buf .entry)) (now (buf .exit)) at top (style-in (now (s .entry))) (now (v .entry)) ⌝ }
 {
@@ -88,7 +88,7 @@ fn by_style(buf: &mut [u8], at: usize, top: usize, s: &[u8; 17], v: &[u8]) -> Sp
     styled(buf, at, top, s, v)
 }
 
-pub fn text(buf: &mut [u8], at: usize, top: usize, allowed: bool, s: &[u8; 17], v: &[u8]) -> Spot
+pub fn text(buf: &mut [u8], at: usize, top: usize, allowed: bool, s: &[u8; 18], v: &[u8]) -> Spot
     requires { ⌜ sane (length (now buf)) at top ≡ true ⌝ }
     ensures { λ r. ⌜ Quickly r (now (buf .entry)) (now (buf .exit)) at top (puts allowed Run) (style-in (now (s .entry))) (now (v .entry)) ⌝ }
 {

@@ -58,7 +58,7 @@ fn by_number(
     top: usize,
     code: usize,
     step: u8,
-    style: &[u8; 17],
+    style: &[u8; 18],
     v: &[u8],
 ) -> Spot
     requires { ⌜ sane (length (now buf)) at top ≡ true ⌝ }
@@ -89,7 +89,7 @@ pub fn quick_step(
     at: usize,
     top: usize,
     step: u8,
-    style: &[u8; 17],
+    style: &[u8; 18],
     v: &[u8],
 ) -> Spot
     requires { ⌜ top < 2 ^ 32 ⌝ }

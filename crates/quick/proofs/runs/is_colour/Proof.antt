@@ -8,5 +8,5 @@ use Rattle.quick.proofs.runs.is_colour.Tie as tie
 pub is-colour-spec : {M : Type 1} → statement M
 is-colour-spec =
     tie.close (tie.spec (λ c. search needs) (λ c. λ e. no-path (cc)) (λ c. search needs) (λ c. search needs) (λ c. search needs) (λ c. search needs)
-    (λ c. search needs) (λ c. search needs)
+    (λ c. search needs) (λ c. search needs) (λ c. search needs)
     (λ c. let e : tie.Else1 = search in λ t. colour-alone _ (e .if1 .left) t))
