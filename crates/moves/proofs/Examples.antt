@@ -1,13 +1,14 @@
--- Calls, computed: P1's file over a buffer that holds it and over one that does not, and states that no writer has.
-use Rattle.rules.proofs.Basics.{_≡_, refl, List, [], _∷_, map, ℕ, replicate}
+-- Calls, computed: P1's file over a buffer that holds it and over one that does not, an underlined text, and states that no writer has.
+use Rattle.rules.proofs.Basics.{_≡_, refl, List, [], _∷_, map, some, ℕ, replicate}
 use Rattle.rules.specs.Bytes.{ascii}
 use Rattle.rules.specs.Result.{refused, accepted}
+use Rattle.rules.specs.Walk.{end, bytes}
 use Rattle.rules.specs.Cases.{unhex}
 use Rattle.moves.specs.declared.Op.{Op}
 use Rattle.moves.specs.declared.Op.the-variants as op
 use Rattle.moves.specs.Stepped.{State, stepped}
 use Rattle.moves.specs.Asked.{Call, fresh, calls}
-use Rattle.moves.specs.Calls.{no-style, with-text}
+use Rattle.moves.specs.Calls.{no-style, with-run, with-text}
 use Rattle.moves.proofs.Open.{moves-open}
 
 -- P1's call by a comma join
@@ -30,6 +31,12 @@ p1-written = refl
 pub p1-too-long : calls p1 (fresh (replicate 51 0)) ≡ refused 10 52
 unfolding moves-open
 p1-too-long = refl
+
+-- a text that is dim and underlined
+pub underlined-written : calls (with-run op.Text (record { style = some (bytes 38 [] (bytes 39 [] end)); chars = ascii "a" }) ∷ with-text op.Finish [] ∷ []) (fresh (replicate 16 255))
+    ≡ accepted (record { bytes = unhex "01000D 100006 260000 270000 11000161"; at = 16; top = 0 })
+unfolding moves-open
+underlined-written = refl
 
 -- ---- 11, with nothing changed
 

@@ -38,7 +38,10 @@ fn values_size(st: Style) -> usize
 fn flags_size(st: Style) -> usize
     ensures { λ r. ⌜ (r ≡ length (flag-parts st)) × (r ≤ 28) ⌝ }
 {
-    part_size(st.subscript, b"") + part_size(st.superscript, b"") + part_size(st.dim, b"") + part_size(st.underline, b"")
+    part_size(st.subscript, b"")
+        + part_size(st.superscript, b"")
+        + part_size(st.dim, b"")
+        + part_size(st.underline, b"")
 }
 
 // The bytes of the field 16, or 0 where there is no style.
