@@ -9,7 +9,7 @@ use crate::words::MOST_TIMES;
 pub const LENT: u8 = 0xa5;
 
 /// An HTML page has at most so many bytes for each byte of its file, and so many around them.
-const HTML_TIMES: usize = 210;
+const HTML_TIMES: usize = 236;
 const HTML_FRAME: usize = 1_072;
 
 #[derive(Clone, Copy, Debug, PartialEq, Eq)]
