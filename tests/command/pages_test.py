@@ -99,6 +99,7 @@ class Pages(Case):
             (b"\x63", "3 at 0: a field passes the end of what encloses it (no field of the format, tag 99, cut off by the end of the file)"),
             (text(b"a") + field(8), "4 at 7: a tag that is not allowed there (Fragment, tag 8, length 0)"),
             (field(5, b"a"), "5 at 0: a wrong length, or a part that is missing (BreakingOnlySpace, tag 5, length 1)"),
+            (field(1, field(16, field(39, b"a")) + field(17)), "5 at 6: a wrong length, or a part that is missing (underline, tag 39, length 1)"),
             (field(3, field(8, text(b"\xff"))), "7 at 9: not UTF-8 (text bytes, tag 17, length 1)"),
             (field(1, field(16, field(35, b"\x76")) + field(17)), "8 at 6: a style that is not allowed (size, tag 35, length 1)"),
         ]
