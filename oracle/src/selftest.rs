@@ -1,7 +1,9 @@
 //! Tests the judge itself: its properties, known faults, and wrong subjects that have to be found.
 
+mod seen;
+
 use crate::answers::Request;
-use crate::check::{check, Refusal};
+use crate::check::check;
 use crate::compare::{self, Stop};
 use crate::damage::{self, every};
 use crate::extent::Extent;
@@ -21,24 +23,9 @@ use crate::subject::Oneself;
 use crate::tags::LEAST_OPACITY;
 use crate::words;
 use crate::wrong::{self, Misprinter, Wrong, WrongMasker, WrongScribe};
+use seen::Seen;
 use std::num::NonZeroUsize;
 use std::panic::{catch_unwind, AssertUnwindSafe};
-
-/// How often each refusal was seen; 0 counts accepted files.
-#[derive(Default)]
-struct Seen([u64; 10]);
-
-impl Seen {
-    fn note(&mut self, checked: Result<(), Refusal>) {
-        let number = checked.map_or_else(|refusal| refusal.number, |()| 0);
-        self.0[usize::from(number)] += 1;
-    }
-
-    fn words(&self) -> String {
-        let numbers = [1, 3, 4, 5, 6, 7, 8, 9].map(|n| format!("{n}: {}", self.0[n]));
-        format!("accepted {}, refused by {}", self.0[0], numbers.join(", "))
-    }
-}
 
 /// Runs everything; what it found, or the first thing that does not hold.
 pub fn run(seed: u64, files: u64) -> Result<Vec<String>, String> {
@@ -53,9 +40,8 @@ pub fn run(seed: u64, files: u64) -> Result<Vec<String>, String> {
             hold_all(&OF_ACCEPTED, &file, 0)?;
         }
     }
-    let missing = [1, 3, 4, 5, 6, 7, 8, 9].iter().find(|n| seen.0[**n] == 0);
-    if let (Some(number), true) = (missing, files >= 10_000) {
-        return Err(format!("no file was refused by {number}"));
+    if let Some(missing) = seen.missing(files) {
+        return Err(missing);
     }
     let mut found = vec![
         format!("{files} files, their properties hold"),
@@ -83,6 +69,7 @@ fn one(random: &mut Random, seen: &mut Seen) -> Held {
     hold_all(&OF_ACCEPTED, &file, width)?;
     hold_all(&OF_ANY, &file, width)?;
     seen.note(check(&file));
+    seen.note_styles(&fields);
     if let Some(known) = known::fault(random, &fields) {
         let said = check(&known.file);
         if said != known.right {
