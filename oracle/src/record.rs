@@ -68,7 +68,7 @@ fn cases() -> Vec<Request> {
 
 /// So many accepted files have no 39, and so many have one.
 const WITHOUT_39S: usize = 120;
-const WITH_39S: usize = 20;
+const WITH_39S: usize = 14;
 
 /// Files of up to 120 bytes, and a handful of up to 700, numbered.
 fn accepted_files() -> impl Iterator<Item = (usize, Vec<u8>)> {
