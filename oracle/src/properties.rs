@@ -277,21 +277,29 @@ fn underlines(file: &[u8], width: u16) -> Held {
         "another body".into()
     })?;
     let fields = field::parse(file);
-    let places = field::places(&fields).into_iter();
-    let right = places.filter(|(.., field)| original::is_39(field)).count();
-    ensure(items == right, || format!("{items} items for {right} 39s"))
+    let style = |(.., field): (usize, usize, &Field)| match field {
+        Field::Inner(STYLES, inside) => Some(inside.iter().any(original::is_39)),
+        _ => None,
+    };
+    let right: Vec<bool> = field::places(&fields)
+        .into_iter()
+        .filter_map(style)
+        .collect();
+    ensure(items == right, || {
+        format!("items {items:?} for 39s {right:?}")
+    })
 }
 
-/// A body with the items of 39s taken out, each of which has to be the last of its style, and how many there were.
-fn without_items(body: &[u8]) -> (Vec<u8>, usize) {
+/// A body with the items of 39s taken out where they are the last of a style, and whether each style had one.
+fn without_items(body: &[u8]) -> (Vec<u8>, Vec<bool>) {
     let [last, alone] =
         [&b""[..], original::STYLE].map(|before| [before, original::ITEM, b"\""].concat());
-    let (mut out, mut items) = (Vec::new(), 0);
+    let (mut out, mut items) = (Vec::new(), Vec::new());
     for piece in body::pieces(body) {
         match piece {
             Piece::Tag(tag) if body::opens_style(tag) => {
                 let bare = replaced(&replaced(tag, &alone, b""), &last, b"\"");
-                items += usize::from(bare != tag);
+                items.push(bare != tag);
                 out.extend(bare);
             }
             Piece::Tag(bytes) | Piece::Between(bytes) => out.extend(bytes),
