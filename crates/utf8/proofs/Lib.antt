@@ -3,3 +3,4 @@ pub mod Table
 pub mod Steps
 pub mod Turns
 pub mod Ascii
+pub mod FourParts

@@ -10,3 +10,7 @@ bits-with n (b ∷ s) = bits-with (bitOr n b) s
 
 unfoldable pub all-bits : List ℕ → ℕ
 all-bits s = bits-with 0 s
+
+-- those of four lists
+abbrev pub four-bits : List ℕ → List ℕ → List ℕ → List ℕ → ℕ
+four-bits a b c d = bitOr (bitOr (bitOr (all-bits a) (all-bits b)) (all-bits c)) (all-bits d)
