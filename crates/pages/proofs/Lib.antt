@@ -10,6 +10,7 @@ pub mod Running
 pub mod Breaks
 pub mod Pens
 pub mod BeforeItems
+pub mod NewLines
 pub mod Quiet
 pub mod Going
 pub mod TextLines

@@ -60,6 +60,11 @@ pub record Unseen (o : rules.LineOp ℕ) (n n′ : ℕ) : Type 0 where
   pub stepped : rules.step (machine-in n) o ≡ ([], machine-in n′)
   pub form-kept : form-in n′ ≡ form-in n
 
+-- an empty line, where no break waits
+pub record Fresh (n : ℕ) : Type 0 where
+  pub line : machine-in n .line ≡ rules.empty
+  pub waits : machine-in n .waiting ≡ none
+
 -- ---- before a part or a mark
 
 unfoldable pub waiting-bytes : Option rules.Break → List ℕ

@@ -1,10 +1,10 @@
 // The bytes of a text: its first line, then the later ones, one by one or as they stand.
 use crate::pen::Pen;
-use crate::pen::interpret;
+use crate::pen::begin_line;
 use crate::pen::interpret_part;
+use crate::pen::line_part;
 use crate::state::plain_at_margin;
 use crate::state::state_behind;
-use lines::LineOp;
 use texts::first_line_end;
 use writing::put;
 use writing::put_bytes;
@@ -34,7 +34,6 @@ fn put_verbatim(page: &mut [u8], pen: Pen, v: &[u8]) -> Pen
 
 // The lines of a text behind the one that ends at `end`: for each a new line and the part on it.
 fn render_lines(v: &[u8], end: usize, page: &mut [u8], pen: Pen) -> Pen
-    requires { ⌜ indent-of pen < 2 ^ 15 ⌝ }
     ensures { λ r. ⌜ Rendered (later-in (drop end (now (v .entry)))) pen (now (page .entry)) r (now (page .exit)) ⌝ }
 {
     let mut at = end;
@@ -42,8 +41,8 @@ fn render_lines(v: &[u8], end: usize, page: &mut [u8], pen: Pen) -> Pen
     while at < v.len() {
         let from = at + 1;
         let to = from + first_line_end(&v[from..]);
-        p = interpret(page, p, LineOp::StartNewLine, b"");
-        p = interpret(page, p, LineOp::AppendToLine, &v[from..to]);
+        p = begin_line(page, p);
+        p = line_part(page, p, &v[from..to]);
         at = to;
     }
     p
@@ -51,7 +50,6 @@ fn render_lines(v: &[u8], end: usize, page: &mut [u8], pen: Pen) -> Pen
 
 // The same lines, at the margin of a plain page all at once.
 fn render_later(v: &[u8], end: usize, page: &mut [u8], pen: Pen) -> Pen
-    requires { ⌜ indent-of pen < 2 ^ 15 ⌝ }
     ensures { λ r. ⌜ Rendered (later-in (drop end (now (v .entry)))) pen (now (page .entry)) r (now (page .exit)) ⌝ }
 {
     if v.len() <= end {

@@ -1,6 +1,8 @@
 // The pen: the line machine, and how far the page is written. One operation at a time.
 use crate::ready::put_ready;
 use crate::ready::put_ready_if_any;
+use crate::state::EMPTY;
+use crate::state::FORM;
 use crate::state::Form;
 use crate::state::TEXT;
 use crate::state::form_in;
@@ -31,6 +33,7 @@ ghost use Rattle.writing.specs.Written.{Written};
 ghost use Rattle.lines.specs.Said.{break-bytes, before-bytes, copies, own};
 ghost use Rattle.lines.specs.declared.LineOp.the-variants as LineOp;
 ghost use Rattle.pages.specs.declared.state.Form.the-variants as Form;
+ghost use Rattle.pages.specs.States.{Fresh};
 ghost use Rattle.pages.specs.Ran.{shown, form, indent-of, IsMark, Interpreted};
 
 pub struct Pen {
@@ -206,6 +209,33 @@ pub fn plain_part(page: &mut [u8], pen: Pen, text: &[u8]) -> Pen
 {
     let from = put_ready_if_any(page, pen.at, pen.state);
     let at = put_bytes(page, from, text);
+    Pen {
+        at,
+        state: on_line(pen.state, TEXT),
+    }
+}
+
+// A new line. A break that waits is dropped.
+pub fn begin_line(page: &mut [u8], pen: Pen) -> Pen
+    ensures { λ r. ⌜ Interpreted LineOp.StartNewLine [] pen (now (page .entry)) r (now (page .exit)) ⌝ }
+{
+    let at = put(page, pen.at, b'\n');
+    Pen {
+        at,
+        state: on_line(pen.state, EMPTY),
+    }
+}
+
+// A part of a text on an empty line: only the indent stands before it.
+pub fn line_part(page: &mut [u8], pen: Pen, text: &[u8]) -> Pen
+    requires { ⌜ Fresh (pen .state) ⌝ }
+    ensures { λ r. ⌜ Interpreted LineOp.AppendToLine (now (text .entry)) pen (now (page .entry)) r (now (page .exit)) ⌝ }
+{
+    if text.len() == 0 {
+        return pen;
+    }
+    let from = put_spaces(page, pen.at, 2 * (pen.state % FORM));
+    let at = put_part(page, from, form_in(pen.state), text);
     Pen {
         at,
         state: on_line(pen.state, TEXT),

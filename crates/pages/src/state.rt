@@ -30,7 +30,9 @@ pub const WAITING: usize = 0x2_0000;
 
 const LINE: usize = 0x8_0000;
 
-// The number of a line with text.
+// The numbers of an empty line and of one with text.
+pub const EMPTY: usize = 0;
+
 pub const TEXT: usize = 1;
 
 fn line_numbered(n: usize) -> LineState

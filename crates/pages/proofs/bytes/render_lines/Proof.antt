@@ -1,15 +1,16 @@
 -- `pages::bytes::render_lines` meets its contract: a loop over the lines, whose invariant is `LinesDone`.
 use Rattle.rules.proofs.Basics.{_-_, arith, length, needs}
-use Rattle.pages.proofs.Running.{kept, quietly}
+use Rattle.pages.proofs.Running.{kept}
+use Rattle.pages.proofs.NewLines.{fresh}
 use Rattle.pages.proofs.TextLines.{next-within, LinesDone, lines-start, lines-more, lines-end}
 use Rattle.pages.proofs.bytes.render_lines.Statement.{statement}
 use Rattle.pages.proofs.bytes.render_lines.Tie as tie
 
 abbrev Inv-loop : tie.InvT-loop
-Inv-loop v end page₀ at₀ p₀ t page at p = LinesDone v at₀ p₀ page₀ at p page
+Inv-loop v end page₀ at₀ p₀ page at p = LinesDone v at₀ p₀ page₀ at p page
 
 abbrev μ-loop : tie.MeasureT-loop
-μ-loop v end page₀ at₀ p₀ t page at p = length v - at
+μ-loop v end page₀ at₀ p₀ page at p = length v - at
 
 returns : tie.Need-returns Inv-loop μ-loop
 returns c = lines-end (c .before .loop .inv) (c .loop-test .left)
@@ -18,12 +19,6 @@ pub render-lines-spec : {M : Type 1} → statement M
 render-lines-spec = tie.close (tie.spec Inv-loop μ-loop (λ c. lines-start) (λ c. search needs) (λ c. search needs) (λ c. search needs)
     (λ c. search needs) (λ c κs. search needs)
     (λ c. let h = next-within (c .before .before .before .loop .inv) (c .before .before .loop-test .taken) (c .first-line-end .ensures) in record { fits = omega (arith, h) })
-    (λ c. search needs)
-    (λ c κs. let l : tie.At-loop Inv-loop μ-loop = search in let s : tie.Start Inv-loop μ-loop = search in omega (arith, l .loop .inv .rendered .indent-kept, s .pre))
-    (λ c. search needs) (λ c. search needs)
-    (λ c. search next-within)
-    (λ c κs. let i : tie.After-interpret Inv-loop μ-loop = search in let l : tie.At-loop Inv-loop μ-loop = search in let s : tie.Start Inv-loop μ-loop = search in
-    omega (arith, quietly (i .interpret .ensures) tt .indent-kept, l .loop .inv .rendered .indent-kept, s .pre))
-    (λ c. search needs)
-    (λ c. search lines-more)
-    (λ c. kept (returns c)) returns)
+    (λ c κs. search needs) (λ c. search needs) (λ c. search needs) (λ c. search next-within)
+    (λ c κs. let b : tie.After-begin-line Inv-loop μ-loop = search in fresh (b .begin-line .ensures))
+    (λ c. search needs) (λ c. search lines-more) (λ c. kept (returns c)) returns)
