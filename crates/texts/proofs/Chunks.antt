@@ -1,5 +1,5 @@
 -- A chunk of bytes: whether it has a newline, and how it is passed.
-use Rattle.rules.proofs.Basics.{_≡_, refl, sym, _∙_, List, [], _∷_, Bool, true, false, _||_, or-true, or-false, ℕ, zero, suc, _+_, _-_, _≤_, _<_, arith, add-one, eqb, length, take, drop, getD, drop-of-length-le, length-drop, drop-cons, drop-drop, eq-eqb, ne-eqb}
+use Rattle.rules.proofs.Basics.{_≡_, refl, sym, _∙_, List, [], _∷_, Bool, true, false, _||_, or-true, or-false, ℕ, zero, suc, _+_, _-_, _≤_, _<_, arith, add-one, eqb, length, take, drop, getD, drop-of-length-le, length-drop, drop-cons, drop-drop, take-all, eq-eqb, ne-eqb}
 use lib.Seq.{take-length}
 use Rattle.rules.specs.Bytes.{has}
 use Rattle.rules.specs.Layout.{parts}
@@ -77,3 +77,25 @@ chunk-passed {v} {at} p n l e f =
       inside = omega (arith, p .inside);
       further = rw (← drop-drop n at v) (omega (arith, p .further));
     }
+
+-- ---- the last window, which may begin before
+
+has-later : (n : ℕ) (s : List ℕ) → has 10 s ≡ false → has 10 (drop n s) ≡ false
+unfolding has
+has-later zero s e = e
+has-later (suc n) [] e = e
+has-later (suc n) (x ∷ s) e = has-later n s (not-later (eqb 10 x) (has 10 s) e)
+
+pub end-passed : {v : List ℕ} {at : ℕ} → Passed v at → (n : ℕ) → n ≤ length v → length v - n ≤ at → {r : Bool}
+    → r ≡ has 10 (take (length v - n + n - (length v - n)) (drop (length v - n) v)) → r ≡ false → Passed v (length v)
+unfolding first-long parts
+end-passed {v} {at} p n l h e f =
+    let from = length v - n in
+    let k : from + n - from ≡ n = omega arith in
+    let whole : take n (drop from v) ≡ drop from v = take-all n (drop from v) (omega (arith, length-drop from v)) in
+    let none : has 10 (drop from v) ≡ false = rw (k, whole) at (sym e ∙ f) in
+    let j : from + (at - from) ≡ at = omega arith in
+    let rest : has 10 (drop at v) ≡ false = rw (drop-drop (at - from) from v, j) at (has-later (at - from) (drop from v) none) in
+    let left : first-long (drop at v) ≡ length v - at = no-newline (drop at v) rest ∙ length-drop at v in
+    let z : first-long (drop (length v) v) ≡ 0 = rw (drop-of-length-le v {i = length v} (omega arith)) in
+    record { inside = omega arith; further = omega (arith, p .further, p .inside, left, z) }

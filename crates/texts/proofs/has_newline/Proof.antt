@@ -10,4 +10,4 @@ has-newline-spec = tie.close (tie.spec (λ v found₀ i₀ found i. Looked v i f
     (λ c. let turn = c .before .before in
     ⊎-elim (λ h. there (turn .before .loop .inv) (omega arith) (h .0 .taken) (h .1))
     (λ h. not-there (turn .before .loop .inv) (omega arith) (h .0 .left) (h .1)) (c .if1 .came))
-    (λ c. all-looked (c .before .loop .inv) (omega arith)))
+    (λ c. all-looked (c .before .loop .inv) (c .loop-test .left)))
