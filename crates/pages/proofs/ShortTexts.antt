@@ -1,5 +1,5 @@
 -- A short text of one line, and its marks on a plain page.
-use Rattle.rules.proofs.Basics.{_≡_, refl, sym, ap, ap₂, subst, _∙_, List, [], _∷_, _++_, append-nil, Option, none, some, Bool, true, false, not, false≢true, not-true, ⊎-elim, ℕ, suc, _+_, _-_, _*_, _<_, _≤_, arith, length, getD, take, drop, length-drop, take-all, ne-eqb, eq-eqb, le-ltb}
+use Rattle.rules.proofs.Basics.{_≡_, refl, sym, ap, ap₂, subst, _∙_, List, [], _∷_, _++_, append-nil, Option, none, some, Bool, true, false, not, false≢true, not-true, ⊎-elim, ℕ, suc, _+_, _-_, _*_, _<_, _≤_, arith, length, getD, take, drop, length-drop, take-all, ne-eqb, eq-eqb, le-ltb, decLt}
 use native.Mathlib.Nat.{eq-or-lt-of-le}
 use lib.Seq.{getD-drop, getD-take}
 use Rattle.rules.specs.Bytes.{newline}
@@ -16,7 +16,7 @@ use Rattle.styles.specs.StylesIn.{styles-in}
 use Rattle.lines.specs.declared.LineOp.the-variants as Op
 use Rattle.lines.specs.Said.{operation, copies}
 use Rattle.pages.specs.OpsIn.{styled-in, run-fields-in, run-in, run-field-in}
-use Rattle.pages.specs.OneLines.{framed, TextFrom, NoNewline, OneLine}
+use Rattle.pages.specs.OneLines.{framed, TextFrom, BeginsAt, NoNewline, OneLine}
 use Rattle.pages.specs.States.{levels-bytes, line-bytes, line-then, ready-bytes, line-ready, on-line, waiting-bytes}
 use Rattle.pages.specs.Ran.{shown, machine, form, Interpreted, Rendered}
 use Rattle.pages.specs.declared.state.Form as F
@@ -92,15 +92,29 @@ without-newline [] n = refl
 without-newline (x ∷ v) n =
     rw (ne-eqb x 10 (n 0 (omega arith)), without-newline v (λ k h. n (suc k) (omega arith))) refl
 
-pub a-line : (s : List ℕ) (from to : ℕ) → to ≤ length s → from < to → to - from ≤ 8 → 8 ≤ to → NoNewline s (to - 8) (to - 8 + 8) → OneLine (take (to - from) (drop from s))
+pub a-line : (s : List ℕ) (from to : ℕ) → to ≤ length s → from < to → NoNewline s from to → OneLine (take (to - from) (drop from s))
 unfolding text-ops later
-a-line s from to l h g e n =
+a-line s from to l h n =
     let v : List ℕ = take (to - from) (drop from s) in
     let n-long : length v ≡ to - from = long s from to l in
     let byte : (k : ℕ) → k < length v → getD v k 0 ≡ getD s (from + k) 0 =
     λ k q. getD-take (to - from) (drop from s) k 0 (omega (arith, q, n-long)) ∙ getD-drop from s k 0 in
-    let p : parts newline v ≡ (v, []) = without-newline v (λ k q z. n .each (from + k) (omega (arith, q, n-long)) (omega (arith, q, n-long)) (sym (byte k q) ∙ z)) in
+    let p : parts newline v ≡ (v, []) = without-newline v (λ k q z. n .each (from + k) (omega arith) (omega (arith, q, n-long)) (sym (byte k q) ∙ z)) in
     record { any = omega (arith, n-long); line = ap (λ x. part (x .0) ∷ later (x .1)) p }
+
+-- ---- windows
+
+-- a window around them
+pub window-around : {s : List ℕ} {from to : ℕ} → to - from ≤ 8 → 8 ≤ to → NoNewline s (to - 8) (to - 8 + 8) → NoNewline s from to
+window-around {s} {from} {to} g e n = record { each = λ k a b. n .each k (omega (arith, a, b)) (omega (arith, a, b)) }
+
+pub no-windows : {s : List ℕ} {from : ℕ} → NoNewline s from from
+no-windows = record { each = λ k a b. absurd (omega (arith, a, b)) }
+
+-- a window more, which may begin before the others end
+pub window-more : {s : List ℕ} {from at b to : ℕ} → NoNewline s from at → b ≤ at → to ≡ b + 8 → NoNewline s b (b + 8) → NoNewline s from to
+window-more {s} {from} {at} n l e m =
+    record { each = λ k a q. elim (decLt k at) [ yes h ↦ n .each k a h | no h ↦ m .each k (omega (arith, h)) (omega (arith, q)) ] }
 
 -- ---- the marks around it, on a plain page
 
@@ -194,6 +208,14 @@ module _ (s : List ℕ) (start to : ℕ) {r : ℕ} (h : start ≤ to) (l : to �
   short-text o f i =
       let any : start + r < to = omega (arith, o .any, long s (start + r) to l) in
       rw (t .is (omega (arith, any, long s start to l)), behind s start to r begins-within, o .line) (reframed (t .style) (take (to - (start + r)) (drop (start + r) s)) (o .any) f i)
+
+  pub begins-at : BeginsAt s start (start + r) to
+  begins-at = let e : r ≡ start + r - start = omega arith in record { behind = omega arith; within = begins-within; begins = rw e at t }
+
+pub longer-text : {s : List ℕ} {start from to : ℕ} {p p′ : Pen} {page page′ : List ℕ} → start ≤ to → to ≤ length s → BeginsAt s start from to → OneLine (take (to - from) (drop from s)) → form p ≡ F.the-variants.Plain
+    → Interpreted Op.AppendToLine (take (to - from) (drop from s)) p page p′ page′ → Rendered (run-in (take (to - start) (drop start s))) p page p′ page′
+longer-text {s} {start} {from} {to} h l b o f i =
+    let e : from ≡ start + (from - start) = omega (arith, b .behind) in short-text s start to h l (b .begins) (rw e at o) f (rw e at i)
 
 -- the same behind a header that is there
 pub run-within : (s : List ℕ) (at to : ℕ) {r : ℕ} → 3 ≤ to - at → to ≤ length s → TextFrom (take (to - (at + 3)) (drop (at + 3) s)) r → at + 3 + r ≤ to

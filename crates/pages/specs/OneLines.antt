@@ -2,8 +2,8 @@
 use mathlib.Core.Path.{_≡_}
 use mathlib.Core.List.{List, [], _∷_, _++_}
 use mathlib.Core.Option.{Option, none, some}
-use Prim.Native.Nat.{ℕ, _<_, _≤_}
-use lib.ListN.{length, getD, drop}
+use Prim.Native.Nat.{ℕ, _-_, _<_, _≤_}
+use lib.ListN.{length, getD, take, drop}
 use Rattle.rules.specs.Bytes.{newline}
 use Rattle.rules.specs.Lines.{mark, push, pop, part, text-ops}
 use Rattle.styles.specs.StylesIn.{styles-in}
@@ -19,6 +19,12 @@ pub record TextFrom (v : List ℕ) (r : ℕ) : Type 0 where
   pub inside : r ≤ length v
   pub style : Option (List ℕ)
   pub is : r < length v → run-in v ≡ framed style (text-ops newline (drop r v))
+
+-- the same of the value start..to in s, by places
+pub record BeginsAt (s : List ℕ) (start from to : ℕ) : Type 0 where
+  pub behind : start ≤ from
+  pub within : from ≤ to
+  pub begins : TextFrom (take (to - start) (drop start s)) (from - start)
 
 -- the bytes of s at from, .., to - 1
 pub record NoNewline (s : List ℕ) (from to : ℕ) : Type 0 where

@@ -5,6 +5,7 @@ use crate::pen::interpret;
 use crate::pen::interpret_mark;
 use crate::pen::plain_part;
 use crate::quick::one_line;
+use crate::quick::one_long_line;
 use crate::quick::text_from;
 use crate::state::NEWLINE;
 use crate::state::SPACE;
@@ -14,10 +15,13 @@ use fields::Field;
 use fields::field_at;
 use fields::parts::field_end;
 use lines::LineOp;
+ghost use mathlib.Core.Path.{_≡_};
 ghost use Prim.Native.Nat.{_-_, _<_, _≤_, _^_};
 ghost use lib.ListN.{length, take, drop};
 ghost use Rattle.pages.specs.OpsIn.{run-in, run-field-in, each-from, anchor-in, if-block-in, leaf-in};
-ghost use Rattle.pages.specs.Ran.{indent-of, Rendered};
+ghost use Rattle.pages.specs.OneLines.{BeginsAt};
+ghost use Rattle.pages.specs.declared.state.Form.the-variants as Form;
+ghost use Rattle.pages.specs.Ran.{form, indent-of, Rendered};
 
 // The value of a 1: a 17, or a 16 and a 17.
 fn render_text(v: &[u8], page: &mut [u8], pen: Pen) -> Pen
@@ -43,6 +47,17 @@ fn render_text(v: &[u8], page: &mut [u8], pen: Pen) -> Pen
     interpret_mark(page, inside, LineOp::PopStyles, &v[from..to])
 }
 
+// The value start..to of a 1 on a plain page that is not short. Its text begins at `from`, and is written at once if it is one line.
+fn render_longer(s: &[u8], start: usize, from: usize, to: usize, page: &mut [u8], pen: Pen) -> Pen
+    requires { ⌜ (indent-of pen < 2 ^ 15) × (start ≤ to) × (to ≤ length (now s)) × (form pen ≡ Form.Plain) × BeginsAt (now s) start from to ⌝ }
+    ensures { λ r. ⌜ Rendered (run-in (take (to - start) (drop start (now (s .entry))))) pen (now (page .entry)) r (now (page .exit)) ⌝ }
+{
+    if one_long_line(s, from, to) {
+        return plain_part(page, pen, &s[from..to]);
+    }
+    render_text(&s[start..to], page, pen)
+}
+
 // The field at..to of a 2 behind its name. It does what `render_one` does; each has one place where it is called, so that the compiler puts it there.
 fn render_run(v: &[u8], at: usize, to: usize, page: &mut [u8], pen: Pen) -> Pen
     requires { ⌜ (indent-of pen < 2 ^ 15) × (at ≤ to) × (to ≤ length (now v)) ⌝ }
@@ -57,6 +72,7 @@ fn render_run(v: &[u8], at: usize, to: usize, page: &mut [u8], pen: Pen) -> Pen
         if one_line(v, from, to) {
             return plain_part(page, pen, &v[from..to]);
         }
+        return render_longer(v, start, from, to, page, pen);
     }
     render_text(&v[start..to], page, pen)
 }
@@ -71,6 +87,7 @@ fn render_one(s: &[u8], start: usize, to: usize, page: &mut [u8], pen: Pen) -> P
         if one_line(s, from, to) {
             return plain_part(page, pen, &s[from..to]);
         }
+        return render_longer(s, start, from, to, page, pen);
     }
     render_text(&s[start..to], page, pen)
 }

@@ -67,3 +67,21 @@ pub fn one_line(s: &[u8], from: usize, to: usize) -> bool
     }
     no_newline(s, to - 8)
 }
+
+// The same of a longer text, by windows inside it, of which the last ends with it.
+pub fn one_long_line(s: &[u8], from: usize, to: usize) -> bool
+    requires { ⌜ (from ≤ to) × (to ≤ length (now s)) ⌝ }
+    ensures { λ r. ⌜ (r ≡ true → OneLine (take (to - from) (drop from (now (s .entry))))) ⌝ }
+{
+    if to - from < 8 {
+        return false;
+    }
+    let mut at = from;
+    while 8 <= to - at {
+        if !no_newline(s, at) {
+            return false;
+        }
+        at += 8;
+    }
+    no_newline(s, to - 8)
+}

@@ -1,7 +1,7 @@
 -- `pages::leaves::render_one` meets its contract: a short text at once, or as any text.
 use Rattle.rules.proofs.Basics.{arith, needs}
 use Rattle.pages.proofs.Running.{kept}
-use Rattle.pages.proofs.ShortTexts.{begins-within, short-text}
+use Rattle.pages.proofs.ShortTexts.{begins-within, begins-at, short-text}
 use Rattle.pages.proofs.leaves.render_one.Statement.{statement}
 use Rattle.pages.proofs.leaves.render_one.Tie as tie
 
@@ -22,4 +22,7 @@ render-one-spec = tie.close (tie.spec (λ c κs. search needs) (λ c. search nee
     (λ c κs. search needs) (λ c. search begins-within) (λ c. search begins-within) (λ c. search needs)
     (λ c κs. let y : tie.Then2 = search in let o : tie.After-one-line = search in let x : tie.Then1 = search in let i : tie.After-is-plain = search in
     (i .is-plain .ensures (x .if1 .taken), o .one-line .ensures (y .if2 .taken) .any))
-    (λ c. kept (returns c)) returns (λ c. search needs) (λ c. search needs) (λ c. search needs) (λ c κs. search needs) (λ c. search needs) (λ c. search needs))
+    (λ c. kept (returns c)) returns
+    (λ c κs. let t : tie.After-text-from = search in let x : tie.Then1 = search in let i : tie.After-is-plain = search in let s : tie.Start = search in
+    (s .pre .0, s .pre .1, s .pre .2, i .is-plain .ensures (x .if1 .taken), begins-at _ _ _ (s .pre .1) (s .pre .2) (t .text-from .ensures)))
+    (λ c. search needs) (λ c. search needs) (λ c. search needs) (λ c. search needs) (λ c. search needs) (λ c κs. search needs) (λ c. search needs) (λ c. search needs))
