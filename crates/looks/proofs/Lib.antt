@@ -1,3 +1,4 @@
--- Windows over a text, and what calm bytes are.
+-- Windows over a text, and what calm bytes and those that lack one are.
 pub mod Windows
+pub mod Lacking
 pub mod CalmBytes

@@ -13,6 +13,10 @@ pub record Fine (odd b : ℕ) (found : Bool) : Type 0 where
 pub record Calm (odd : ℕ) (s : List ℕ) (from to : ℕ) : Type 0 where
   pub each : (k : ℕ) → from ≤ k → k < to → (getD s k 0 < 128) × (getD s k 0 ≡ odd → ⊥)
 
+-- none of them is the one that is asked for
+pub record Lacks (odd : ℕ) (s : List ℕ) (from to : ℕ) : Type 0 where
+  pub each : (k : ℕ) → from ≤ k → k < to → getD s k 0 ≡ odd → ⊥
+
 -- true says A, and false nothing
 pub record Says (r : Bool) (A : Type 0) : Type 0 where
   pub says : r ≡ true → A

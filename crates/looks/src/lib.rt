@@ -1,8 +1,8 @@
-// A quick look at a short text: whether all its bytes are ASCII and none is one that is asked for. Eight bytes are looked at together, without an exit,
+// A quick look at a short text: whether all its bytes are ASCII and none is one that is asked for, or the second alone. Eight bytes are looked at together, without an exit,
 // which the compiler makes one load and one comparison. `false` says nothing: the caller then looks byte by byte.
 ghost use Prim.Native.Nat.{_+_, _≤_};
 ghost use lib.ListN.{length};
-ghost use Rattle.looks.specs.Calm.{Fine, Calm, Says};
+ghost use Rattle.looks.specs.Calm.{Fine, Calm, Lacks, Says};
 
 // A byte that is not ASCII, or the one that is asked for.
 fn is_odd(b: u8, odd: u8) -> bool
@@ -42,6 +42,36 @@ pub fn calm(s: &[u8], from: usize, to: usize, odd: u8) -> bool
         return false;
     }
     calm_eight(s, to - 8, odd)
+}
+
+// Whether the eight bytes from `from` on lack the one that is asked for.
+fn lacks_eight(s: &[u8], from: usize, odd: u8) -> bool
+    requires { ⌜ from + 8 ≤ length (now s) ⌝ }
+    ensures { λ r. ⌜ Says r (Lacks odd (now (s .entry)) from (from + 8)) ⌝ }
+{
+    let mut found = false;
+    let mut i = 0;
+    while i < 8 {
+        if s[from + i] == odd {
+            found = true;
+        }
+        i += 1;
+    }
+    !found
+}
+
+// The same of the bytes from..to, where they are at most eight, with those before them, which need not be ASCII.
+pub fn lacks(s: &[u8], from: usize, to: usize, odd: u8) -> bool
+    requires { ⌜ (from ≤ to) × (to ≤ length (now s)) ⌝ }
+    ensures { λ r. ⌜ Says r (Lacks odd (now (s .entry)) from to) ⌝ }
+{
+    if 8 < to - from {
+        return false;
+    }
+    if to < 8 {
+        return false;
+    }
+    lacks_eight(s, to - 8, odd)
 }
 
 // The bytes from..to, where they are at most sixteen: the first eight, which may end behind them, and the last eight.

@@ -2,8 +2,8 @@
 use Rattle.rules.proofs.Basics.{_≡_, refl, sym, ap, _∙_, List, [], _∷_, Bool, true, false, ℕ, zero, suc, _+_, _-_, _≤_, _<_, arith, length, take, drop, getD, drop-of-length-le, drop-cons, eq-eqb, ne-eqb}
 use Rattle.rules.specs.Bytes.{if_then_else_, newline}
 use Rattle.rules.specs.Layout.{Shape, Inline, Block, last, parts, only-if-block}
-use Rattle.looks.specs.Calm.{Calm, Says}
-use Rattle.looks.proofs.CalmBytes.{calm-lacks}
+use Rattle.looks.specs.Calm.{Lacks, Says}
+use Rattle.looks.proofs.CalmBytes.{lacks-has}
 use Rattle.fields.specs.Walk.{part}
 use Rattle.texts.specs.FirstLine.{first-long}
 use Rattle.texts.proofs.Chunks.{no-newline}
@@ -138,14 +138,14 @@ module _ (w : ℕ) (v : List ℕ) {r : Shape} {first x : ℕ} (f : first ≡ fir
       go (b ∷ bs) q = refl
 
 -- a text in which a quick look found no newline
-pub calm-line : (w : ℕ) {s : List ℕ} {from to : ℕ} → from ≤ to → to ≤ length s → {b : Bool} → Says b (Calm 10 s from to) → b ≡ true
+pub lacking-line : (w : ℕ) {s : List ℕ} {from to : ℕ} → from ≤ to → to ≤ length s → {b : Bool} → Says b (Lacks 10 s from to) → b ≡ true
     → {x : ℕ} → x ≡ wide (to - from) w → {r : Shape} → r ≡ Inline x 0 → r ≡ text-in w (part s from to)
-calm-line w {s} {from} {to} l h C t fx q =
+lacking-line w {s} {from} {to} l h C t fx q =
     let n : length (part s from to) ≡ to - from = part-length s from to l h in
-    let all : first-long (part s from to) ≡ length (part s from to) = rw (part-up-to s from to l) (no-newline (drop from (take to s)) (calm-lacks h l (C .says t))) in
+    let all : first-long (part s from to) ≡ length (part s from to) = rw (part-up-to s from to l) (no-newline (drop from (take to s)) (lacks-has h l (C .says t))) in
     one-line w (part s from to) (sym (all ∙ n)) fx (sym n) q
 
-pub calm-if-block : {s : List ℕ} {from to : ℕ} → from ≤ to → to ≤ length s → {b : Bool} → Says b (Calm 10 s from to) → b ≡ true
+pub lacking-if-block : {s : List ℕ} {from to : ℕ} → from ≤ to → to ≤ length s → {b : Bool} → Says b (Lacks 10 s from to) → b ≡ true
     → {x : ℕ} → x ≡ wide (to - from) 10 → {r : Shape} → r ≡ Inline x x → r ≡ only-if-block (text-in 10 (part s from to))
 unfolding only-if-block
-calm-if-block l h C t fx q = q ∙ ap only-if-block (calm-line 10 l h C t fx refl)
+lacking-if-block l h C t fx q = q ∙ ap only-if-block (lacking-line 10 l h C t fx refl)

@@ -5,11 +5,11 @@ use Rattle.fields.specs.declared.Field.{Field}
 use Rattle.fields.specs.declared.Field.the-variants.{Whole}
 use Rattle.fields.specs.FieldAt.{field-at}
 use Rattle.fields.proofs.Laws.{NotWhole, not-whole, rises}
-use Rattle.looks.specs.Calm.{Calm, Says}
+use Rattle.looks.specs.Calm.{Lacks, Says}
 use Rattle.styles.specs.StylesIn.{styles-in}
 use Rattle.fields.specs.Walk.{part, fold, span, here, Ends}
 use Rattle.fields.proofs.Loops.{Left, left-more, left-ends, fold-nil, fold-step}
-use Rattle.rigid.proofs.Lines.{calm-line}
+use Rattle.rigid.proofs.Lines.{lacking-line}
 use Rattle.rigid.proofs.Places.{plain-text, styled-text, ends-in-file, part-up-to, part-of-front, part-length, part-first, part-behind, ends-rise, ends-inside}
 use Rattle.rigid.specs.RigidIn.{wide, text-in, chars-in, styled-in, run-in, with-run, anchor-in}
 
@@ -39,14 +39,14 @@ module _ (v : List ℕ) {r : Shape} {f : Field} (e : f ≡ field-at v 0) where
 -- a short line, alone or behind a style
 module _ (s : List ℕ) (at end : ℕ) (h : end ≤ length s) {r : Shape} {x : ℕ} {b : Bool} where
   pub plain-quick : (t from to : ℕ) {f : Field} → f ≡ field-at (take end s) at → f ≡ Whole t from to → (t ≡ 16 → ⊥)
-      → Says b (Calm 10 s from to) → b ≡ true → x ≡ wide (to - from) 10 → r ≡ Inline x 0 → r ≡ run-in (part s at end)
+      → Says b (Lacks 10 s from to) → b ≡ true → x ≡ wide (to - from) 10 → r ≡ Inline x 0 → r ≡ run-in (part s at end)
   plain-quick t from to {f} e w n C y fx q =
-      plain-text s at end h e w n (calm-line 10 (rises (take end s) at t from to f e w) (ends-in-file s end at t from to f h e w) C y fx q)
+      plain-text s at end h e w n (lacking-line 10 (rises (take end s) at t from to f e w) (ends-in-file s end at t from to f h e w) C y fx q)
 
   pub styled-quick : (from to t′ from′ to′ : ℕ) {g : Field} {c : ℕ} → Whole 16 from to ≡ field-at (take end s) at → g ≡ field-at (take end s) to → g ≡ Whole t′ from′ to′
-      → c ≡ byte-width (effective (styles-in (part s from to))) → Says b (Calm 10 s from′ to′) → b ≡ true → x ≡ wide (to′ - from′) c → r ≡ Inline x 0 → r ≡ run-in (part s at end)
+      → c ≡ byte-width (effective (styles-in (part s from to))) → Says b (Lacks 10 s from′ to′) → b ≡ true → x ≡ wide (to′ - from′) c → r ≡ Inline x 0 → r ≡ run-in (part s at end)
   styled-quick from to t′ from′ to′ {g} e e′ w′ ec C y fx q =
-      styled-text s at end h e refl refl e′ w′ ec (calm-line _ (rises (take end s) to t′ from′ to′ g e′ w′) (ends-in-file s end to t′ from′ to′ g h e′ w′) C y fx q)
+      styled-text s at end h e refl refl e′ w′ ec (lacking-line _ (rises (take end s) to t′ from′ to′ g e′ w′) (ends-in-file s end to t′ from′ to′ g h e′ w′) C y fx q)
 
 pub style-first : (s : List ℕ) (at t from to : ℕ) {f : Field} → f ≡ field-at s at → f ≡ Whole t from to → t ≡ 16 → Whole 16 from to ≡ field-at s at
 style-first s at t from to e w n = ap (λ (t : ℕ). Whole t from to) (sym n) ∙ sym w ∙ e

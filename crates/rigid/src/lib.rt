@@ -14,7 +14,7 @@ use fields::Field;
 use fields::field_at;
 use fields::field_in;
 use fields::parts::field_end_in;
-use looks::calm;
+use looks::lacks;
 use rules::MOST_TENTHS;
 use shapes::ApproxLayout;
 use shapes::append;
@@ -137,7 +137,7 @@ fn styled_run(s: &[u8], at: usize, end: usize, from: usize, to: usize) -> Approx
     else {
         return any_run(&s[at..end]);
     };
-    if calm(s, f, e, b'\n') {
+    if lacks(s, f, e, b'\n') {
         return inline(columns(e - f, style_width(s, from, to)), 0);
     }
     any_run(&s[at..end])
@@ -154,7 +154,7 @@ fn run_layout(s: &[u8], at: usize, end: usize) -> ApproxLayout
     if tag == 16 {
         return styled_run(s, at, end, from, to);
     }
-    if calm(s, from, to, b'\n') {
+    if lacks(s, from, to, b'\n') {
         return inline(columns(to - from, BYTE), 0);
     }
     any_run(&s[at..end])
@@ -205,7 +205,7 @@ fn if_block_layout(s: &[u8], from: usize, to: usize) -> ApproxLayout
     requires { ⌜ (from ≤ to) × (to ≤ length (now s)) ⌝ }
     ensures { λ r. ⌜ shape r ≡ only-if-block (text-in 10 (part (now (s .entry)) from to)) ⌝ }
 {
-    if calm(s, from, to, b'\n') {
+    if lacks(s, from, to, b'\n') {
         let worst = columns(to - from, BYTE);
         return inline(worst, worst);
     }
