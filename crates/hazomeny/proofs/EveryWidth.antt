@@ -15,7 +15,7 @@ use Rattle.rules.proofs.Chains.{bind-inv}
 use Rattle.rules.proofs.LeftLaid.{Left, left-by-layout}
 use Rattle.rules.proofs.Demand3.{by-kind}
 use Rattle.rules.proofs.TwoWidths.{two-widths, left-bytes}
-use Rattle.pages.proofs.HtmlLengths.{page-most}
+use Rattle.lengths.proofs.HtmlLengths.{page-most}
 use Rattle.hazomeny.proofs.WrongPrograms.{layout-said-in-c, page-said-in-c}
 
 -- an answer that is short where its bound was lent is a page

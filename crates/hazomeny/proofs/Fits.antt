@@ -17,7 +17,7 @@ use Rattle.rules.proofs.Files.{Read, tree-read}
 use Rattle.rules.proofs.Refused.{Refusable, too-long, at-fault, refused-place}
 use Rattle.rules.proofs.Unique.{Numbered}
 use Rattle.rules.proofs.Demand3.{by-kind}
-use Rattle.pages.proofs.HtmlLengths.{page-short}
+use Rattle.lengths.proofs.HtmlLengths.{page-short}
 use Rattle.verify.proofs.Verdicts.{every-byte}
 use Rattle.rules.specs.Mask.{newlines, mask}
 use Rattle.pairs.specs.Masking.{mask-text, mask-outcome}

@@ -4,7 +4,8 @@ use Rattle.rules.specs.Encode.{field}
 use Rattle.fields.specs.Walk.{here, rest}
 use Rattle.rules.proofs.SoundFields.{length-field}
 use Rattle.fields.proofs.OfFields.{here-field, rest-field}
-use Rattle.pages.specs.OpsIn.{Ops, each, each-from}
+use Rattle.pages.specs.OpsIn.{each, each-from}
+use Rattle.pens.specs.Ops.{Ops}
 
 -- f gives os at the fields of s, for any fuel that is enough
 pub record Gives (f : List ℕ → Ops) (s : List ℕ) (os : Ops) : Type 0 where

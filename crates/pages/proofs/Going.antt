@@ -2,11 +2,12 @@
 use Rattle.rules.proofs.Basics.{_≡_, refl, sym, ap, _∙_, List, [], _++_, append-nil, append-assoc, ℕ, _-_, _<_, _≤_, arith, length, take, drop, length-drop}
 use Rattle.fields.specs.Walk.{span, here, rest, Ends}
 use Rattle.fields.proofs.Loops.{Left, left-more, left-ends}
-use Rattle.pages.specs.OpsIn.{Ops, each, each-from}
-use Rattle.pages.specs.Ran.{Rendered}
-use Rattle.pages.specs.declared.pen.Pen.{Pen}
+use Rattle.pages.specs.OpsIn.{each, each-from}
+use Rattle.pens.specs.Ops.{Ops}
+use Rattle.pens.specs.Ran.{Rendered}
+use Rattle.pens.specs.declared.pen.Pen.{Pen}
 use Rattle.pages.proofs.EachOf.{each-nil, each-step}
-use Rattle.pages.proofs.Running.{nothing, and-then, by}
+use Rattle.pens.proofs.Running.{nothing, and-then, by}
 
 -- ---- fields
 

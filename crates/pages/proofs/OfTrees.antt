@@ -8,7 +8,8 @@ use Rattle.rules.specs.Good.{Good, GoodTree}
 use Rattle.rules.specs.Lines.{break, a-newline, indent, unindent, ops, indented-ops, inline-ops}
 use Rattle.rules.proofs.Typed.{inner-good}
 use Rattle.rules.proofs.Turned.{encode-leaf}
-use Rattle.pages.specs.OpsIn.{Ops, each-from, node-by, behind-fragment, fragments-by, indented-by, node-in, fragment-in}
+use Rattle.pages.specs.OpsIn.{each-from, node-by, behind-fragment, fragments-by, indented-by, node-in, fragment-in}
+use Rattle.pens.specs.Ops.{Ops}
 use Rattle.pages.proofs.EachOf.{Gives, gives-nil, gives-more, gives-from, gives-in, has-header}
 use Rattle.fields.proofs.Leaves.{leaf-at, room-left}
 use Rattle.pages.proofs.OfLeaves.{leaf-says}

@@ -17,13 +17,13 @@ use Rattle.lines.specs.declared.LineOp.the-variants as Op
 use Rattle.lines.specs.Said.{operation, copies}
 use Rattle.pages.specs.OpsIn.{styled-in, run-fields-in, run-in, run-field-in}
 use Rattle.pages.specs.OneLines.{framed, TextFrom, BeginsAt, NoNewline, OneLine}
-use Rattle.pages.specs.States.{levels-bytes, line-bytes, line-then, ready-bytes, line-ready, on-line, waiting-bytes}
-use Rattle.pages.specs.Ran.{shown, machine, form, Interpreted, Rendered}
-use Rattle.pages.specs.declared.state.Form as F
-use Rattle.pages.specs.declared.pen.Pen.{Pen}
+use Rattle.pens.specs.States.{levels-bytes, line-bytes, line-then, ready-bytes, line-ready, on-line, waiting-bytes}
+use Rattle.pens.specs.Ran.{shown, machine, form, Interpreted, Rendered}
+use Rattle.pens.specs.declared.state.Form as F
+use Rattle.pens.specs.declared.pen.Pen.{Pen}
 use Rattle.pages.proofs.Places.{long, behind}
-use Rattle.pages.proofs.Running.{shown-append, quietly}
-use Rattle.pages.proofs.BeforeItems.{item-says, part-item}
+use Rattle.pens.proofs.Running.{shown-append, quietly}
+use Rattle.pens.proofs.BeforeItems.{item-says, part-item}
 use Rattle.pages.proofs.LeafLaws.{whole-run}
 
 -- ---- where a text begins

@@ -4,12 +4,13 @@ use Rattle.rules.specs.Lines.{break, a-newline, indent, unindent}
 use Rattle.rules.specs.Bytes.{if_then_else_}
 use Rattle.pages.proofs.EachOf.{each-nil}
 use Rattle.pages.proofs.Places.{long, first, behind}
-use Rattle.pages.specs.OpsIn.{Ops, each-from, leaf-in, node-by, behind-fragment, fragments-by, indented-by, node-in, three-in, fragment-in}
-use Rattle.pages.specs.States.{Unseen}
-use Rattle.pages.specs.Ran.{Rendered}
-use Rattle.pages.specs.declared.pen.Pen.{Pen}
-use Rattle.pages.proofs.Running.{nothing, and-then, indented}
-use Rattle.pages.proofs.Breaks.{unseen-ran, break-rendered}
+use Rattle.pages.specs.OpsIn.{each-from, leaf-in, node-by, behind-fragment, fragments-by, indented-by, node-in, three-in, fragment-in}
+use Rattle.pens.specs.Ops.{Ops}
+use Rattle.pens.specs.States.{Unseen}
+use Rattle.pens.specs.Ran.{Rendered}
+use Rattle.pens.specs.declared.pen.Pen.{Pen}
+use Rattle.pens.proofs.Running.{nothing, and-then, indented}
+use Rattle.pens.proofs.Breaks.{unseen-ran, break-rendered}
 
 -- ---- a node
 

@@ -20,13 +20,13 @@ use Rattle.writing.specs.Written.{last, Written}
 use Rattle.writing.proofs.Laws as writing
 use Rattle.writing.proofs.Laws.{how-long, fits, no-page}
 use Rattle.pages.specs.OpsIn.{fragment-in}
-use Rattle.pages.specs.Ran.{shown, machine, form, Rendered}
+use Rattle.pens.specs.Ran.{shown, machine, form, Rendered}
 use Rattle.pages.specs.Kinds.{form-of, head, foot, page-in, page-of, longest-for, html-fits, surely-fits, page-outcome}
 use Rattle.pages.specs.declared.frame.Kind as K
 use Rattle.pages.specs.declared.frame.Kind.{Kind}
-use Rattle.pages.specs.declared.pen.Pen.{Pen}
+use Rattle.pens.specs.declared.pen.Pen.{Pen}
 use Rattle.pages.proofs.OfTrees.{ops-tree}
-use Rattle.pages.proofs.HtmlLengths.{page-most, page-short}
+use Rattle.lengths.proofs.HtmlLengths.{page-most, page-short}
 use Rattle.markup.proofs.Fills.{fill-append, fill-makes}
 
 -- ---- the pen over a whole file

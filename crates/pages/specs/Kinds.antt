@@ -12,8 +12,8 @@ use Rattle.rules.specs.Plain.{plain, fill}
 use Rattle.rules.specs.Html.{escape, opening, closing, before-body, after-body, body, document}
 use Rattle.rules.specs.Answers.{itself, plain-outcome, body-outcome, document-outcome}
 use Rattle.pages.specs.OpsIn.{fragment-in}
-use Rattle.pages.specs.Ran.{shown}
-use Rattle.pages.specs.declared.state.Form as F
+use Rattle.pens.specs.Ran.{shown}
+use Rattle.pens.specs.declared.state.Form as F
 use Rattle.pages.specs.declared.frame.Kind as K
 
 unfoldable pub form-of : K.Kind → F.Form

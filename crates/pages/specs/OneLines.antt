@@ -7,7 +7,8 @@ use lib.ListN.{length, getD, take, drop}
 use Rattle.rules.specs.Bytes.{newline}
 use Rattle.rules.specs.Lines.{mark, push, pop, part, text-ops}
 use Rattle.styles.specs.StylesIn.{styles-in}
-use Rattle.pages.specs.OpsIn.{Ops, run-in}
+use Rattle.pages.specs.OpsIn.{run-in}
+use Rattle.pens.specs.Ops.{Ops}
 
 -- some operations between a style's marks, where there is one
 unfoldable pub framed : Option (List ℕ) → Ops → Ops

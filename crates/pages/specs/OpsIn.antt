@@ -6,15 +6,13 @@ use Prim.Native.Nat.{ℕ, zero, suc}
 use lib.Dec.{leb, eqb}
 use lib.ListN.{length, getD, drop}
 use Rattle.rules.specs.Bytes.{if_then_else_, newline}
-use Rattle.rules.specs.Lines.{LineOp, new-line, mark, push, pop, open-anchor, close-anchor, empty-anchor, break, a-space, a-newline, indent, unindent, text-ops}
+use Rattle.rules.specs.Lines.{mark, push, pop, open-anchor, close-anchor, empty-anchor, break, a-space, a-newline, indent, unindent, text-ops}
 use Rattle.fields.specs.declared.Field.{Field}
 use Rattle.fields.specs.declared.Field.the-variants.{Whole, Past, Cut}
 use Rattle.fields.specs.FieldAt.{field-at}
 use Rattle.styles.specs.StylesIn.{styles-in}
 use Rattle.fields.specs.Walk.{part, here, rest}
-
-abbrev pub Ops : Type 0
-Ops = List (LineOp ℕ)
+use Rattle.pens.specs.Ops.{Ops}
 
 -- f's operations at each field in turn, for at most k fields
 unfoldable pub each : (List ℕ → Ops) → ℕ → List ℕ → Ops
@@ -27,11 +25,6 @@ unfoldable pub each-from : (List ℕ → Ops) → (from : ℕ) → List ℕ → 
 each-from f from s = each f (length s) (drop from s)
 
 -- ---- a text
-
--- behind its first line: at a newline, or at the end
-unfoldable pub later-in : List ℕ → Ops
-later-in [] = []
-later-in (x ∷ v) = new-line ∷ text-ops newline v
 
 -- the 17 behind a style
 unfoldable pub styled-in : List ℕ → (style : List ℕ) → Field → Ops

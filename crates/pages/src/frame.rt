@@ -1,5 +1,5 @@
 // The frames of pages: what stands before and behind the items. The strings are the original's, the style element's with its scope put in.
-use crate::state::Form;
+use pens::state::Form;
 use writing::put_bytes;
 ghost use mathlib.Core.Path.{_≡_};
 ghost use Rattle.writing.specs.Written.{Written};

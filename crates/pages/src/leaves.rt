@@ -1,27 +1,27 @@
 // Texts and anchors: nodes that are no blocks.
-use crate::bytes::render_bytes;
-use crate::pen::Pen;
-use crate::pen::interpret;
-use crate::pen::interpret_mark;
-use crate::pen::plain_part;
 use crate::quick::one_line;
 use crate::quick::one_long_line;
 use crate::quick::text_from;
-use crate::state::NEWLINE;
-use crate::state::SPACE;
-use crate::state::broken;
-use crate::state::is_plain;
 use fields::Field;
 use fields::field_at;
 use fields::parts::field_end;
 use lines::LineOp;
+use pens::bytes::render_bytes;
+use pens::pen::Pen;
+use pens::pen::interpret;
+use pens::pen::interpret_mark;
+use pens::pen::plain_part;
+use pens::state::NEWLINE;
+use pens::state::SPACE;
+use pens::state::broken;
+use pens::state::is_plain;
 ghost use mathlib.Core.Path.{_≡_};
 ghost use Prim.Native.Nat.{_-_, _<_, _≤_, _^_};
 ghost use lib.ListN.{length, take, drop};
 ghost use Rattle.pages.specs.OpsIn.{run-in, run-field-in, each-from, anchor-in, if-block-in, leaf-in};
 ghost use Rattle.pages.specs.OneLines.{BeginsAt};
-ghost use Rattle.pages.specs.declared.state.Form.the-variants as Form;
-ghost use Rattle.pages.specs.Ran.{form, indent-of, Rendered};
+ghost use Rattle.pens.specs.declared.state.Form.the-variants as Form;
+ghost use Rattle.pens.specs.Ran.{form, indent-of, Rendered};
 
 // The value of a 1: a 17, or a 16 and a 17.
 fn render_text(v: &[u8], page: &mut [u8], pen: Pen) -> Pen

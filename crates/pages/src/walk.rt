@@ -1,16 +1,16 @@
 // The walk: a node, a block's fragments, a fragment's nodes. They call each other, with one block less left each time round.
 use crate::leaves::render_leaf;
-use crate::pen::Pen;
-use crate::state::NEWLINE;
-use crate::state::broken;
-use crate::state::deeper;
-use crate::state::less_deep;
 use fields::parts::field_end;
+use pens::pen::Pen;
+use pens::state::NEWLINE;
+use pens::state::broken;
+use pens::state::deeper;
+use pens::state::less_deep;
 ghost use mathlib.Core.List.{List};
 ghost use Prim.Native.Nat.{ℕ, _+_, _-_, _<_, _≤_, _^_};
 ghost use lib.ListN.{length, take, drop};
 ghost use Rattle.pages.specs.OpsIn.{behind-fragment, fragments-by, three-in, node-in, fragment-in};
-ghost use Rattle.pages.specs.Ran.{indent-of, Rendered};
+ghost use Rattle.pens.specs.Ran.{indent-of, Rendered};
 
 // A node, whose whole field stands at..to.
 fn render_node(

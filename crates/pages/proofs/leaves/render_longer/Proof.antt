@@ -1,6 +1,6 @@
 -- `pages::leaves::render_longer` meets its contract: one line at once, or as any text.
 use Rattle.rules.proofs.Basics.{arith, needs}
-use Rattle.pages.proofs.Running.{kept}
+use Rattle.pens.proofs.Running.{kept}
 use Rattle.pages.proofs.ShortTexts.{longer-text}
 use Rattle.pages.proofs.leaves.render_longer.Statement.{statement}
 use Rattle.pages.proofs.leaves.render_longer.Tie as tie

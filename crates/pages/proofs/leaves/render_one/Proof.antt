@@ -1,6 +1,6 @@
 -- `pages::leaves::render_one` meets its contract: a short text at once, or as any text.
 use Rattle.rules.proofs.Basics.{arith, needs}
-use Rattle.pages.proofs.Running.{kept}
+use Rattle.pens.proofs.Running.{kept}
 use Rattle.pages.proofs.ShortTexts.{begins-within, begins-at, short-text}
 use Rattle.pages.proofs.leaves.render_one.Statement.{statement}
 use Rattle.pages.proofs.leaves.render_one.Tie as tie

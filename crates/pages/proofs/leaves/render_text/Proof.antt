@@ -1,7 +1,7 @@
 -- `pages::leaves::render_text` meets its contract: a 17, or a 17 between the push and the pop of its 16.
 use Rattle.rules.proofs.Basics.{⊎-elim, arith, needs}
-use Rattle.pages.specs.Ran.{IsMark}
-use Rattle.pages.proofs.Running.{kept, quietly}
+use Rattle.pens.specs.Ran.{IsMark}
+use Rattle.pens.proofs.Running.{kept, quietly}
 use Rattle.pages.proofs.LeafLaws.{no-text, plain-text, cut-text, styled-text}
 use Rattle.fields.proofs.Laws.{rises, ends}
 use Rattle.pages.proofs.leaves.render_text.Statement.{statement}

@@ -1,11 +1,11 @@
 -- `render_node`, `render_indented`, `render_fragments`, `render_inner` and `render_fragment` meet their contracts: the blocks that are left fall; each loop's invariant is `Going`.
 use Rattle.rules.proofs.Basics.{refl, arith, length, needs, ℕ, _+_, _*_, _-_}
 use Rattle.fields.proofs.Spans.{end-rises, end-within, end-less}
-use Rattle.pages.specs.States.{break-numbered}
-use Rattle.pages.specs.Ran.{indent-of}
+use Rattle.pens.specs.States.{break-numbered}
+use Rattle.pens.specs.Ran.{indent-of}
 use Rattle.pages.specs.OpsIn.{fragments-by, node-in, three-in, fragment-in}
-use Rattle.pages.proofs.Running.{nothing, and-then, kept}
-use Rattle.pages.proofs.Breaks.{break-level, indent-level}
+use Rattle.pens.proofs.Running.{nothing, and-then, kept}
+use Rattle.pens.proofs.Breaks.{break-level, indent-level}
 use Rattle.pages.proofs.Going.{Going, going-starts, going-more, going-ends}
 use Rattle.pages.proofs.WalkLaws.{cut-node, node-three, no-four, node-four, node-leaf, a-three, fragment-ops, no-nodes}
 use borrow.Fn.PlainCycle.{Measures}
@@ -26,9 +26,9 @@ use Rattle.pages.proofs.walk.render_node.Reads as render-node
 use Rattle.pages.proofs.walk.render_node.Kinds as render-node-kinds
 use Rattle.pages.proofs.walk.+render_fragment+render_fragments+render_indented+render_inner+render_node.Lts-render_node as render-node-lts
 use Rattle.pages.proofs.leaves.render_leaf.Reads as render-leaf-reads
-use Rattle.pages.proofs.state.broken.Reads as broken-reads
-use Rattle.pages.proofs.state.deeper.Reads as deeper-reads
-use Rattle.pages.proofs.state.less_deep.Reads as less-deep-reads
+use Rattle.pens.proofs.state.broken.Reads as broken-reads
+use Rattle.pens.proofs.state.deeper.Reads as deeper-reads
+use Rattle.pens.proofs.state.less_deep.Reads as less-deep-reads
 use Rattle.pages.proofs.walk.end_fragment.Reads as end-fragment-reads
 use Rattle.fields.proofs.parts.field_end.Reads as field-end-reads
 use Rattle.pages.proofs.walk.+render_fragment+render_fragments+render_indented+render_inner+render_node.{

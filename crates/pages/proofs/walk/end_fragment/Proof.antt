@@ -1,9 +1,9 @@
 -- `pages::walk::end_fragment` meets its contract: a break, or nothing.
 use Rattle.rules.proofs.Basics.{arith}
-use Rattle.pages.specs.States.{break-numbered}
+use Rattle.pens.specs.States.{break-numbered}
 use Rattle.pages.specs.OpsIn.{behind-fragment}
-use Rattle.pages.proofs.Running.{nothing}
-use Rattle.pages.proofs.Breaks.{break-rendered}
+use Rattle.pens.proofs.Running.{nothing}
+use Rattle.pens.proofs.Breaks.{break-rendered}
 use Rattle.pages.proofs.walk.end_fragment.Statement.{statement}
 use Rattle.pages.proofs.walk.end_fragment.Tie as tie
 

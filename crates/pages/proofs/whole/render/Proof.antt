@@ -1,8 +1,8 @@
 -- `pages::whole::render` meets its contract: the head, the walk from the start, the foot.
 use Rattle.rules.proofs.Basics.{_∙_, ap, arith, needs}
 use Rattle.rules.specs.Lines.{Machine, start}
-use Rattle.pages.specs.Ran.{indent-of}
-use Rattle.pages.proofs.StateLaws.{start-fits}
+use Rattle.pens.specs.Ran.{indent-of}
+use Rattle.pens.proofs.StateLaws.{start-fits}
 use Rattle.pages.proofs.WholeLaws.{whole-page}
 use Rattle.pages.proofs.whole.render.Statement.{statement}
 use Rattle.pages.proofs.whole.render.Tie as tie

@@ -1,0 +1,3 @@
+-- How long pages can be in HTML.
+pub mod StyleLengths
+pub mod HtmlLengths

@@ -1,0 +1,1 @@
+// How long pages can be in HTML: theorems about the rules, with no code.

@@ -1,8 +1,0 @@
--- `pages::ready::put_ready` meets its contract: the break, and the line that it leaves.
-use Rattle.rules.proofs.Basics.{needs}
-use Rattle.pages.proofs.BeforeItems.{both-ready}
-use Rattle.pages.proofs.ready.put_ready.Statement.{statement}
-use Rattle.pages.proofs.ready.put_ready.Tie as tie
-
-pub put-ready-spec : {M : Type 1} → statement M
-put-ready-spec = tie.close (tie.spec (λ c κs. search needs) (λ c κs. search needs) (λ c κs. search needs) (λ c. search needs) (λ c. search both-ready))

@@ -1,8 +1,0 @@
--- `pages::state::form_in` meets its contract: the bit says the form.
-use Rattle.pages.specs.States.{form-numbered, form-in}
-use Rattle.pages.proofs.StateLaws.{html-said}
-use Rattle.pages.proofs.state.form_in.Statement.{statement}
-use Rattle.pages.proofs.state.form_in.Tie as tie
-
-pub form-in-spec : {M : Type 1} → statement M
-form-in-spec = tie.close (tie.spec (λ c. unfold form-in form-numbered in rw (c .if1 .taken)) (λ c. unfold form-in in html-said _ (c .if1 .left)))
