@@ -1,12 +1,12 @@
 -- A line with text on a plain page, where no break waits: of an operation nothing shows but its own bytes.
-use Rattle.rules.proofs.Basics.{_≡_, refl, sym, ap, _∙_, List, [], _∷_, append-nil, true, none, ℕ, _/_, _%_, arith, eqb→eq}
+use Rattle.rules.proofs.Basics.{_≡_, refl, sym, ap, _∙_, List, [], _∷_, append-nil, true, none, ℕ, _/_, _%_, arith, eqb, eqb→eq}
 use Rattle.rules.specs.Lines.{LineOp, part, mark, Machine, has-text, Item, release, spacing, item, step, run, after}
 use Rattle.writing.specs.Written.{Written}
 use Rattle.writing.proofs.Laws as writing
 use Rattle.lines.specs.declared.LineOp as O
 use Rattle.lines.specs.Said.{operation, copies, own}
 use Rattle.pens.specs.Ran.{shown, machine, Ran, IsMark, Interpreted}
-use Rattle.pens.specs.States.{line-numbered, waiting-numbered, form-numbered, machine-in, form-in, quiet, waiting-bytes, line-bytes, line-then, ready-bytes}
+use Rattle.pens.specs.States.{line-numbered, waiting-numbered, form-numbered, machine-in, form-in, quiet, waiting-bytes, levels-bytes, line-bytes, line-then, ready-bytes}
 use Rattle.pens.specs.declared.state.Form as F
 use Rattle.pens.specs.declared.pen.Pen.{Pen}
 use Rattle.pens.proofs.Pens.{shown-copies, mark-shows-nothing}
@@ -29,6 +29,20 @@ quiet-machine n e =
 pub quiet-ready : (n : ℕ) {page : List ℕ} {at : ℕ} → quiet n ≡ true → Written page at (ready-bytes (machine-in n)) page at
 unfolding ready-bytes line-then release waiting-bytes line-bytes
 quiet-ready n e = rw (quiet-machine n e .0) writing.nothing
+
+-- a space that waits does
+pub space-ready : (n : ℕ) → eqb (n / 65536) 10 ≡ true → ready-bytes (machine-in n) ≡ 32 ∷ []
+unfolding machine-in line-numbered waiting-numbered ready-bytes line-then release waiting-bytes line-bytes
+space-ready n e =
+    let q : n / 65536 ≡ 10 = eqb→eq (n / 65536) 10 (rw e tt) in
+    let l : n / 524288 ≡ 1 = omega (arith, q) in
+    let w : (n / 131072) % 4 ≡ 1 = omega (arith, q) in
+    rw (l, w) refl
+
+-- or a newline, where there is no indent
+pub newline-ready : (n : ℕ) → eqb n 786432 ≡ true → ready-bytes (machine-in n) ≡ 10 ∷ []
+unfolding machine-in line-numbered waiting-numbered ready-bytes line-then release waiting-bytes line-bytes levels-bytes
+newline-ready n e = let q : n ≡ 786432 = eqb→eq n 786432 (rw e tt) in rw q refl
 
 -- an operation that leaves the line as it is
 quiet-ran : (o : LineOp ℕ) (is : List (Item ℕ)) → ((l : ℕ) → step (within-line l) o ≡ (is, within-line l)) → {p p′ : Pen} {page page′ : List ℕ} → quiet (p .state) ≡ true

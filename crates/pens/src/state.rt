@@ -28,7 +28,7 @@ pub const FORM: usize = 0x1_0000;
 
 pub const WAITING: usize = 0x2_0000;
 
-const LINE: usize = 0x8_0000;
+pub const LINE: usize = 0x8_0000;
 
 // The numbers of an empty line and of one with text.
 pub const EMPTY: usize = 0;
