@@ -68,12 +68,22 @@ fn approx_fragments_layout(s: &mut [u8], widths: MaxWidths, left: usize) -> Laid
     let mut at = 3;
     while at < s.len() {
         let to = field_end(s, at);
-        let l = approx_layout(&mut s[at..to], 3, widths, left);
+        let l = approx_inner_layout(&mut s[at..to], widths, left);
         layout = append(layout, l.layout);
         changed = saturating_add(changed, l.changed);
         at = to;
     }
     Laid { layout, changed }
+}
+
+// A fragment of a block, whose whole field is s. An empty one is not entered.
+fn approx_inner_layout(s: &mut [u8], widths: MaxWidths, left: usize) -> Laid
+    ensures { λ r. ⌜ Is (fragment-in left (widths .inline) (widths .block) 3 (now (s .entry))) (said r) (now (s .exit)) ⌝ }
+{
+    if s.len() <= 3 {
+        return laid_out(inline(0, 0), 0);
+    }
+    approx_layout(s, 3, widths, left)
 }
 
 // The nodes of a stretch from `first` to `bound`, one after the other: each 3 and 4 is laid out.
