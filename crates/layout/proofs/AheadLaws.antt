@@ -60,7 +60,7 @@ ended {s} {from} {first = first} {bound} {stop} {last} l m q h g = record {
   rises = h;
 }
 
-not-either : (a b : Bool) → (a || b) ≡ false → (a ≡ true → ⊥) × (b ≡ true → ⊥)
+pub not-either : (a b : Bool) → (a || b) ≡ false → (a ≡ true → ⊥) × (b ≡ true → ⊥)
 not-either a b e = (λ p. false≢true (sym e ∙ rw p), λ p. false≢true (sym e ∙ ap (λ (b : Bool). a || b) p ∙ or-true a))
 
 -- three bytes are there

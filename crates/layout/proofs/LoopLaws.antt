@@ -113,7 +113,7 @@ after-snoc s zero at = refl
 after-snoc s (suc k) at = after-snoc s k (at + span (drop at s))
 
 -- they depend on the bytes from there on
-after-same : (s s′ : List ℕ) (k at : ℕ) → drop at s′ ≡ drop at s → after s′ k at ≡ after s k at
+pub after-same : (s s′ : List ℕ) (k at : ℕ) → drop at s′ ≡ drop at s → after s′ k at ≡ after s k at
 unfolding after
 after-same s s′ zero at e = refl
 after-same s s′ (suc k) at e =
@@ -132,7 +132,7 @@ path-on {s} {a} {b} {to} p h e = record {
   ends = after-snoc s (p .steps) a ∙ ap (λ (b : ℕ). b + span (drop b s)) (p .ends) ∙ sym (e .end);
 }
 
-path-rises : {s : List ℕ} {a b : ℕ} → Path s a b → a ≤ b
+pub path-rises : {s : List ℕ} {a b : ℕ} → Path s a b → a ≤ b
 path-rises {s} {a} p = omega (arith, after-from s (p .steps) a, p .ends)
 
 -- a field less
@@ -160,7 +160,7 @@ pub record Along (g : Shape → List ℕ → Laid × List ℕ) (a b : ℕ) (so-f
 same-count : (n : ℕ) → cap n ≡ n → n ≡ cap (n + 0)
 same-count n c = omega (arith, c, cap-min n, cap-min (n + 0))
 
-later-same : (s s′ : List ℕ) {a b : ℕ} → a ≤ b → drop a s′ ≡ drop a s → drop b s′ ≡ drop b s
+pub later-same : (s s′ : List ℕ) {a b : ℕ} → a ≤ b → drop a s′ ≡ drop a s → drop b s′ ≡ drop b s
 later-same s s′ {a} {b} l e =
     let q : a + (b - a) ≡ b = omega arith in
     rw q at (sym (drop-drop (b - a) a s′) ∙ ap (drop (b - a)) e ∙ drop-drop (b - a) a s)

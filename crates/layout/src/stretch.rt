@@ -29,7 +29,7 @@ pub struct Stretch {
 }
 
 // A 3 or a 4: only these are laid out again.
-fn is_flexible(tag: u8) -> bool
+pub fn is_flexible(tag: u8) -> bool
     ensures { λ r. ⌜ r ≡ (eqb tag 3 || eqb tag 4) ⌝ }
 {
     if tag == 3 {
@@ -39,7 +39,7 @@ fn is_flexible(tag: u8) -> bool
 }
 
 // The first 3 or 4 of the stretch that begins at `from`, at a later one: `at` where none was seen.
-fn first_of(from: usize, first: usize, bound: usize, at: usize) -> usize
+pub fn first_of(from: usize, first: usize, bound: usize, at: usize) -> usize
     ensures { λ r. ⌜ r ≡ (if eqb bound from then at else first) ⌝ }
 {
     if bound == from {

@@ -1,0 +1,12 @@
+-- The laws behind layout beside a file.
+pub mod PaintedLaws
+pub mod Places
+pub mod ChoiceLaws
+pub mod LeafLaws
+pub mod Passing
+pub mod StretchLaws
+pub mod Clears
+pub mod NodeLaws
+pub mod FragmentLaws
+pub mod BlockLaws
+pub mod WholeFragments
