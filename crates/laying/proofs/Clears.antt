@@ -1,5 +1,5 @@
 -- Where no mark shows, the file with its marks is the file.
-use Rattle.rules.proofs.Basics.{_≡_, refl, sym, ap, subst, _∙_, List, ℕ, _+_, _-_, _≤_, _<_, arith, length, getD, take, drop, add-zero, length-take, length-drop, length-take-le}
+use Rattle.rules.proofs.Basics.{_≡_, refl, sym, ap, subst, _∙_, List, ℕ, _+_, _-_, _≤_, _<_, arith, length, getD, take, drop, add-zero, length-take, length-drop, length-take-le, replicate, length-replicate}
 use lib.Seq.{getD-take, getD-drop}
 use Rattle.fields.specs.Walk.{part, span, Ends}
 use Rattle.verify.proofs.Parts.{sliced}
@@ -10,7 +10,7 @@ use Rattle.layout.specs.LaidIn.{Ending, ahead-in}
 use Rattle.layout.specs.Stretches.{Closes, Quiet}
 use Rattle.laying.specs.Painted.{painted}
 use Rattle.laying.specs.Beside.{Clear}
-use Rattle.laying.proofs.PaintedLaws.{painted-long}
+use Rattle.laying.proofs.PaintedLaws.{painted-long, painted-none}
 
 module _ {ws s : List ℕ} {a : ℕ} (C : Clear ws s a) where
   pub clear-later : {b : ℕ} → a ≤ b → Clear ws s b
@@ -45,6 +45,10 @@ part-long ws ws′ s end at to =
     let u : List ℕ = take end (painted ws s) in
     let v : List ℕ = take end (painted ws′ s) in
     omega (arith, taken-long ws ws′ s end, length-take (to - at) (drop at u), length-take (to - at) (drop at v), length-drop at u, length-drop at v)
+
+-- no mark at all
+pub no-marks : (s : List ℕ) → length s ≤ 60_000 → Clear (replicate 938 0) s 0
+no-marks s h = record { words = length-replicate {A = ℕ} 938 0; short = h; is = painted-none 938 s }
 
 -- ---- what is seen from a place on
 

@@ -1,5 +1,6 @@
 -- The laws behind layout beside a file.
 pub mod PaintedLaws
+pub mod ShownLaws
 pub mod Places
 pub mod ChoiceLaws
 pub mod LeafLaws
@@ -10,3 +11,4 @@ pub mod NodeLaws
 pub mod FragmentLaws
 pub mod BlockLaws
 pub mod WholeFragments
+pub mod WholeLaws

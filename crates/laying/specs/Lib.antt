@@ -3,3 +3,4 @@ pub mod Painted
 pub mod Told
 pub mod Beside
 pub mod Walks
+pub mod Outcomes

@@ -4,3 +4,4 @@ pub mod flex;
 pub mod leaves;
 pub mod marks;
 pub mod stretch;
+pub mod whole;

@@ -1,8 +1,9 @@
 // The marks: a bit for each place of a file. A mark says that a 3 stands there in place of the file's own byte.
 ghost use mathlib.Core.Path.{_≡_};
-ghost use Prim.Native.Nat.{_<_};
+ghost use mathlib.Core.List.{List};
+ghost use Prim.Native.Nat.{ℕ, _+_, _<_, _≤_};
 ghost use lib.ListN.{length};
-ghost use Rattle.laying.specs.Painted.{MarkedAt};
+ghost use Rattle.laying.specs.Painted.{bit-at, MarkedAt, Shown, ShownAll, WordAt};
 
 // A mark at `at`.
 pub fn mark(bits: &mut [u64; 938], at: usize)
@@ -11,4 +12,52 @@ pub fn mark(bits: &mut [u64; 938], at: usize)
 {
     let i = at / 64;
     bits[i] = bits[i] | (1u64 << ((at % 64) as u64));
+}
+
+// The byte at `at`, as its mark says: a 3 where it is set. Answers how many bytes have changed, of which n are before it.
+fn show(s: &mut [u8], at: usize, bit: u64, n: usize) -> usize
+    requires { ⌜ (n ≤ at) × ((at < 60_064) × (at < length (now s))) ⌝ }
+    ensures { λ r. ⌜ (r ≤ at + 1) × ((ws s₀ : List ℕ) → bit ≡ bit-at ws at → Shown ws s₀ at (now (s .entry)) n → Shown ws s₀ (at + 1) (now (s .exit)) r) ⌝ }
+{
+    if bit == 0 {
+        return n;
+    }
+    if s[at] == 3 {
+        return n;
+    }
+    s[at] = 3;
+    n + 1
+}
+
+// The bytes from `from` on, by the marks in one word.
+fn show_word(s: &mut [u8], from: usize, word: u64, count: usize) -> usize
+    requires { ⌜ (count ≤ from) × (from < 60_000) ⌝ }
+    ensures { λ r. ⌜ (r ≤ from + 64) × ((ws s₀ : List ℕ) → WordAt ws from word → Shown ws s₀ from (now (s .entry)) count → Shown ws s₀ (from + 64) (now (s .exit)) r) ⌝ }
+{
+    let mut n = count;
+    let mut rest = word;
+    let mut at = from;
+    while rest != 0 {
+        if s.len() <= at {
+            return n;
+        }
+        n = show(s, at, rest % 2, n);
+        rest = rest / 2;
+        at += 1;
+    }
+    n
+}
+
+// Each byte that has a mark becomes a 3. Answers how many have changed.
+pub fn show_all(s: &mut [u8], bits: &[u64; 938]) -> usize
+    requires { ⌜ (length (now s) ≤ 60_000) × (length (now bits) ≡ 938) ⌝ }
+    ensures { λ r. ⌜ ShownAll (now (bits .entry)) (now (s .entry)) (now (s .exit)) r ⌝ }
+{
+    let mut n = 0;
+    let mut i = 0;
+    while i * 64 < s.len() {
+        n = show_word(s, i * 64, bits[i], n);
+        i += 1;
+    }
+    n
 }

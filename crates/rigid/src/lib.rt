@@ -32,7 +32,7 @@ const BYTE: u16 = 10;
 const CAP: usize = MOST_TENTHS as usize;
 
 // n bytes, each w tenths of a column wide.
-fn columns(n: usize, w: u16) -> u16
+pub fn columns(n: usize, w: u16) -> u16
     ensures { λ r. ⌜ r ≡ wide n w ⌝ }
 {
     if w == 0 {
@@ -114,7 +114,7 @@ fn is_colour(s: &[u8], from: usize, to: usize) -> bool
 }
 
 // The width of a byte under the style from..to.
-fn style_width(s: &[u8], from: usize, to: usize) -> u16
+pub fn style_width(s: &[u8], from: usize, to: usize) -> u16
     requires { ⌜ (from ≤ to) × (to ≤ length (now s)) ⌝ }
     ensures { λ r. ⌜ r ≡ byte-width (effective (styles-in (part (now (s .entry)) from to))) ⌝ }
 {
@@ -144,7 +144,7 @@ fn styled_run(s: &[u8], at: usize, end: usize, from: usize, to: usize) -> Approx
 }
 
 // The value at..end of a 1. Most texts are short and of one line, which a quick look shows.
-fn run_layout(s: &[u8], at: usize, end: usize) -> ApproxLayout
+pub fn run_layout(s: &[u8], at: usize, end: usize) -> ApproxLayout
     requires { ⌜ (at ≤ end) × (end ≤ length (now s)) ⌝ }
     ensures { λ r. ⌜ shape r ≡ run-in (part (now (s .entry)) at end) ⌝ }
 {
@@ -201,7 +201,7 @@ fn only_if_block(a: ApproxLayout) -> ApproxLayout
 }
 
 // The value from..to of a 7.
-fn if_block_layout(s: &[u8], from: usize, to: usize) -> ApproxLayout
+pub fn if_block_layout(s: &[u8], from: usize, to: usize) -> ApproxLayout
     requires { ⌜ (from ≤ to) × (to ≤ length (now s)) ⌝ }
     ensures { λ r. ⌜ shape r ≡ only-if-block (text-in 10 (part (now (s .entry)) from to)) ⌝ }
 {

@@ -13,7 +13,7 @@ use Rattle.verify.specs.Walked.{rest-result, RestSaid}
 use Rattle.verify.proofs.SaidLaws.{sound-said, as-refused}
 
 -- a check as an answer that counts nothing
-unfoldable counted : Result (Unit {0}) → Result ℕ
+unfoldable pub counted : Result (Unit {0}) → Result ℕ
 counted (refused n p) = refused n p
 counted (accepted tt) = accepted 0
 
@@ -30,9 +30,12 @@ in-time : (s : List ℕ) → length s ≤ most-bytes → check-answer s ≡ coun
 unfolding check-answer-by tree read-to check-to need _>>_ rest-result
 in-time s h = simp (le-leb (length s) most-bytes h) (by-walk (walk content itself (length s) in-fragment 0 0 0 s))
 
+pub walk-answers : (s : List ℕ) → length s ≤ most-bytes → {x : Result (Unit {0})} → RestSaid in-fragment [] 0 0 0 0 (slice 0 (length s) s) x → counted x ≡ check-answer s
+walk-answers s h F = ap counted (F .is ∙ ap (rest-result in-fragment [] 0 0 0 0) (take-length s)) ∙ sym (in-time s h)
+
 module _ (s : List ℕ) (h : length s ≤ most-bytes) (r : ℕ) (F : RestSaid in-fragment [] 0 0 0 0 (slice 0 (length s) s) (verdict r)) where
   by-check : counted (verdict r) ≡ check-answer s
-  by-check = ap counted (F .is ∙ ap (rest-result in-fragment [] 0 0 0 0) (take-length s)) ∙ sym (in-time s h)
+  by-check = walk-answers s h F
 
   pub sound-file : r ≡ 0 → accepted 0 ≡ check-answer s
   unfolding counted
