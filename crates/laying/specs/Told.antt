@@ -46,6 +46,10 @@ pub record LeafTold (s : List ℕ) (t at to r : ℕ) : Type 0 where
   pub check : Tells r (LeafSaid s t at to)
   pub layout : (r ≡ bad → ⊥) → shape r ≡ by-tag t (part s (at + 3) to)
 
+-- a quick look: where it finds a layout
+pub record QuickTold (s : List ℕ) (t at to r : ℕ) : Type 0 where
+  pub found : (r ≡ bad → ⊥) → LeafTold s t at to r
+
 -- any node: of a block nothing is told but its rigid layout
 pub record NodeTold (s : List ℕ) (t at to r : ℕ) : Type 0 where
   pub check : is-block t ≡ false → Tells r (LeafSaid s t at to)

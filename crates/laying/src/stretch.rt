@@ -2,7 +2,7 @@
 // are looked at.
 use crate::answer::BAD;
 use crate::answer::told;
-use crate::leaves::any_leaf;
+use crate::leaves::leaf;
 use fields::Field;
 use fields::field_in;
 use layout::stretch::Stretch;
@@ -32,7 +32,7 @@ fn rigid_node(s: &[u8], at: usize, to: usize, tag: u8) -> ApproxLayout
     if tag == 4 {
         return told(inline(0, 0));
     }
-    any_leaf(s, at, to, tag)
+    leaf(s, at, to, tag)
 }
 
 // No stretch: something is wrong.
