@@ -1,12 +1,14 @@
 -- Marks become tags: a byte, those of a word, all.
 use Rattle.rules.proofs.Basics.{_≡_, refl, sym, ap, subst, _∙_, List, [], _∷_, _++_, Bool, true, false, ℕ, zero, suc, _+_, _-_, _*_, _/_, _%_, _^_, _<_, _≤_, zero-add, div-one, arith, decLt, eqb, eq-eqb, ne-eqb, length, getD, take, drop, set, length-set, drop-drop, take-suc, drop-cons, take-all, drop-of-length-le}
-use native.Mathlib.Nat.{div-eq-of-lt}
-use lib.Pow.{pow-pos, shr-shr}
+use native.Mathlib.Nat.{div-eq-of-lt, lt-trans}
+use lib.Pow.{pow-pos, pow-lt, shr-shr}
+use lib.Bits.{bitOr, or-add-and, and-le-l, and-le-r}
+use lib.ListN.{List·getD-eq-default}
 use lib.Seq.{take-suc-set, drop-set-lt, getD-drop}
 use Rattle.rules.specs.Bytes.{if_then_else_}
 use Rattle.rules.specs.Answers.{changed}
 use Rattle.laying.specs.Painted.{bit-at, marked, painted, Shown, ShownAll, WordAt}
-use Rattle.laying.proofs.PaintedLaws.{painted-long, painted-at}
+use Rattle.laying.proofs.PaintedLaws.{painted-long, painted-at, painted-clear}
 
 pub shown-starts : (ws s : List ℕ) → Shown ws s 0 s 0
 shown-starts ws s = record { long = refl; before = refl; behind = refl; count = zero-add _ }
@@ -170,6 +172,45 @@ module _ {from word count : ℕ} {s₀ : List ℕ} {rest at : ℕ} {s : List ℕ
         shown = λ ws u W q. c .1 ws u (ap (λ (x : ℕ). x % 2) (p .rest-is) ∙ word-bit W (at - from) (omega (arith, h, p .begins)) ∙ ap (bit-at ws) e) (p .shown ws u W q);
       }
 
+  -- four places without a mark
+  pub word-skip : word < 2 ^ 64 → (rest ≡ 0 → ⊥) → rest % 16 ≡ 0 → InWord from word count s₀ (rest / 16) (at + 4) s n
+  unfolding marked
+  word-skip w z q =
+      let k : ℕ = at - from in
+      let e : from + k ≡ at = omega (arith, p .begins) in
+      let f : k + 4 ≡ at + 4 - from = omega (arith, p .begins) in
+      let further : rest / 16 ≡ word / 2 ^ (k + 4) = ap (λ (x : ℕ). x / 16) (p .rest-is) ∙ shr-shr word k 4 in
+      record {
+        begins = omega (arith, p .begins);
+        ends = room k (λ o. some-left rest z q (further ∙ o)) e;
+        long = p .long;
+        few = omega (arith, p .few);
+        rest-is = further ∙ ap (λ (k : ℕ). word / 2 ^ k) f;
+        shown = λ ws u W S. shown-skip 4 (p .shown ws u W S) (none ws W k e (room k (λ o. some-left rest z q (further ∙ o)) e));
+      }
+    where
+      some-left : (r : ℕ) → (r ≡ 0 → ⊥) → r % 16 ≡ 0 → r / 16 ≡ 0 → ⊥
+      some-left r z q o = z (omega arith)
+
+      low-bits : (r j : ℕ) → r % 16 ≡ 0 → j < 4 → r / 2 ^ j % 2 ≡ 0
+      low-bits r zero q h = omega arith
+      low-bits r (suc zero) q h = omega arith
+      low-bits r (suc (suc zero)) q h = omega arith
+      low-bits r (suc (suc (suc zero))) q h = omega arith
+      low-bits r (suc (suc (suc (suc j)))) q h = absurd (omega arith)
+
+      room : (k : ℕ) → (word / 2 ^ (k + 4) ≡ 0 → ⊥) → from + k ≡ at → at + 4 ≤ from + 64
+      room k o e = elim (decLt 64 (k + 4)) [ yes h ↦ absurd (o (div-eq-of-lt (lt-trans w (pow-lt h)))) | no h ↦ omega (arith, h, e) ]
+
+      none : (ws : List ℕ) → WordAt ws from word → (k : ℕ) → from + k ≡ at → at + 4 ≤ from + 64 → (i : ℕ) → at ≤ i → i < at + 4 → marked ws i ≡ false
+      none ws W k e g i l h =
+          let j : ℕ = i - at in
+          let f : from + (k + j) ≡ i = omega (arith, e) in
+          let k-is : at - from ≡ k = omega (arith, e) in
+          let r : word / 2 ^ (k + j) ≡ rest / 2 ^ j = sym (shr-shr word k j) ∙ ap (λ (x : ℕ). x / 2 ^ j) (sym (p .rest-is ∙ ap (λ (k : ℕ). word / 2 ^ k) k-is)) in
+          ap (λ (i : ℕ). eqb (bit-at ws i) 1) (sym f)
+          ∙ ap (λ (b : ℕ). eqb b 1) (sym (word-bit W (k + j) (omega (arith, e))) ∙ ap (λ (x : ℕ). x % 2) r ∙ low-bits rest j q (omega arith))
+
   -- nothing is left of the word
   pub word-ends : rest ≡ 0 → (ws u : List ℕ) → WordAt ws from word → Shown ws u from s₀ count → Shown ws u (from + 64) s n
   word-ends z ws u W q =
@@ -207,3 +248,29 @@ module _ {ws s₀ : List ℕ} {i : ℕ} {s : List ℕ} {n : ℕ} (p : InWords ws
 
   pub words-end : length s ≤ i * 64 → ShownAll ws s₀ s n
   words-end h = shown-ends (p .shown) h
+
+-- ---- all marks together
+
+-- each of the first i words is at most this
+abbrev pub Most : (ws : List ℕ) (i all : ℕ) → Type 0
+Most ws i all = (k : ℕ) → k < i → getD ws k 0 ≤ all
+
+pub most-more : (ws : List ℕ) (i all : ℕ) → Most ws i all → Most ws (i + 1) (bitOr all (getD ws i 0))
+most-more ws i all m k h = elim (decLt k i) [
+  | yes l ↦ omega (arith, m k l, or-add-and all (getD ws i 0), and-le-r all (getD ws i 0))
+  | no l ↦ let e : k ≡ i = omega (arith, h, l) in
+      let g : getD ws k 0 ≡ getD ws i 0 = ap (λ (k : ℕ). getD ws k 0) e in
+      omega (arith, g, or-add-and all (getD ws i 0), and-le-l all (getD ws i 0))
+]
+
+-- where they are 0, nothing changes
+none-changed : (k : ℕ) (s : List ℕ) → length (changed k s s) ≡ 0
+unfolding changed
+none-changed k [] = refl
+none-changed k (x ∷ s) = rw (eq-eqb x x refl) (none-changed (suc k) s)
+
+pub nothing-shown : (ws s : List ℕ) → length ws ≡ 938 → {all : ℕ} → Most ws 938 all → all ≡ 0 → ShownAll ws s s 0
+nothing-shown ws s l m z = record { bytes = sym (painted-clear ws s each); count = sym (none-changed 0 s) }
+  where
+    each : (i : ℕ) → getD ws i 0 ≡ 0
+    each i = elim (decLt i 938) [ yes h ↦ omega (arith, m i h, z) | no h ↦ List·getD-eq-default ws 0 (omega (arith, h, l)) ]

@@ -2,7 +2,7 @@
 ghost use mathlib.Core.Path.{_≡_};
 ghost use mathlib.Core.List.{List};
 ghost use Prim.Native.Nat.{ℕ, _+_, _<_, _≤_};
-ghost use lib.ListN.{length};
+ghost use lib.ListN.{length, getD};
 ghost use Rattle.laying.specs.Painted.{bit-at, MarkedAt, Shown, ShownAll, WordAt};
 
 // A mark at `at`.
@@ -41,6 +41,11 @@ fn show_word(s: &mut [u8], from: usize, word: u64, count: usize) -> usize
         if s.len() <= at {
             return n;
         }
+        if rest % 16 == 0 {
+            rest = rest / 16;
+            at += 4;
+            continue;
+        }
         n = show(s, at, rest % 2, n);
         rest = rest / 2;
         at += 1;
@@ -48,11 +53,27 @@ fn show_word(s: &mut [u8], from: usize, word: u64, count: usize) -> usize
     n
 }
 
+// The bits of all marks together, without an exit, which the compiler makes several words wide.
+fn all_marks(bits: &[u64; 938]) -> u64
+    ensures { λ r. ⌜ ((i : ℕ) → i < 938 → getD (now (bits .entry)) i 0 ≤ r) ⌝ }
+{
+    let mut all = 0;
+    let mut i = 0;
+    while i < 938 {
+        all = all | bits[i];
+        i += 1;
+    }
+    all
+}
+
 // Each byte that has a mark becomes a 3. Answers how many have changed.
 pub fn show_all(s: &mut [u8], bits: &[u64; 938]) -> usize
     requires { ⌜ (length (now s) ≤ 60_000) × (length (now bits) ≡ 938) ⌝ }
     ensures { λ r. ⌜ ShownAll (now (bits .entry)) (now (s .entry)) (now (s .exit)) r ⌝ }
 {
+    if all_marks(bits) == 0 {
+        return 0;
+    }
     let mut n = 0;
     let mut i = 0;
     while i * 64 < s.len() {
