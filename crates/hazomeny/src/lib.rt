@@ -1,7 +1,7 @@
 // The public entries: each is total and terminates, has no preconditions, and answers as document 01 says. The C names take slices and numbers
 // and answer in one number (`coded` of rules). The writer's entries in Rattle are `scribe::held`; here is its C name.
 use answers::in_one;
-use layout::whole::layout_with_max_line_width;
+use laying::whole::layout_with_max_line_width;
 use masking::making::mask_into;
 use masking::numbers::length_in_one;
 use masking::pair::check_pair;

@@ -16,7 +16,8 @@ use Rattle.laying.specs.Painted.{painted}
 use Rattle.laying.specs.Told.{bad, Fine, Wrong, Rest, Passed, Checked, Open}
 use Rattle.laying.specs.Beside.{Clear, LaidAt}
 use Rattle.laying.specs.Walks.{NodeWalked, StretchLaid, StretchWalked}
-use Rattle.laying.proofs.Places.{part-within, laid-within, put-back}
+use Rattle.laying.proofs.Places.{laid-within, put-back}
+use Rattle.rigid.proofs.Places.{part-of-front}
 use Rattle.laying.proofs.Clears.{clear-on, clear-later, clear-in, clear-ends, clear-tag, painted-up-to, taken-long, part-long, path-same}
 use Rattle.laying.proofs.StretchLaws.{whole-ends}
 use Rattle.laying.proofs.Passing.{First, open-first, node-passed, node-wrong, leaf-passed, passed-none, passed-on, passed-wrong}
@@ -87,7 +88,7 @@ module _ {d i b a bound : ℕ} {so-far₀ : Shape} {s : List ℕ} {end : ℕ} {w
         let u : List ℕ = take end (painted ws s) in
         let v : List ℕ = part u node to in
         let tag : getD v 0 0 ≡ getD s node 0 =
-        ap (λ (v : List ℕ). getD v 0 0) (part-within (painted ws s) node to end up within) ∙ clear-tag (p .clear) (omega (arith, rising (next-node .there))) in
+        ap (λ (v : List ℕ). getD v 0 0) (part-of-front (painted ws s) node to end up within) ∙ clear-tag (p .clear) (omega (arith, rising (next-node .there))) in
         let n = not-either (eqb (getD s node 0) 3) (eqb (getD s node 0) 4) (sym q ∙ z) in
         let n3 : getD v 0 0 ≡ 3 → ⊥ = λ o. n .0 (eq-eqb (getD s node 0) 3 (sym tag ∙ o)) in
         let n4 : getD v 0 0 ≡ 4 → ⊥ = λ o. n .1 (eq-eqb (getD s node 0) 4 (sym tag ∙ o)) in

@@ -5,6 +5,7 @@ use Rattle.rules.specs.Layout.{Shape, Inline}
 use Rattle.fields.specs.Walk.{span, here, rest, walk, over, part, Is}
 use Rattle.fields.proofs.Spans.{span-positive}
 use Rattle.fields.proofs.Loops.{walk-nil, walk-step}
+use Rattle.rigid.proofs.Places.{part-of-front}
 use Rattle.verify.proofs.Parts.{sliced}
 use Rattle.layout.specs.LaidIn.{Laid, ahead-in, with-node, with-fragment, fragments-in, nodes-in}
 use Rattle.laying.specs.Beside.{LaidTo, LaidAt}
@@ -82,10 +83,6 @@ laid-part {at} {to} l X law {from} e {t} {h} {t′} m L =
 
 -- ---- in what ends at `end`
 
-pub part-within : (t : List ℕ) (at to end : ℕ) → at ≤ to → to ≤ end → part (take end t) at to ≡ part t at to
-unfolding part
-part-within t at to end l m = sliced (take end t) at to l ∙ ap (drop at) (take-take to end t m) ∙ sym (sliced t at to l)
-
 module _ {x : List ℕ → Laid × List ℕ} {at to : ℕ} {t : List ℕ} {h : Shape} {t′ : List ℕ} (l : at ≤ to) where
   pub laid-within : {end : ℕ} → to ≤ end → LaidAt x at to t h t′ → LaidAt x at to (take end t) h (take end t′)
   laid-within {end} m L = record {
@@ -96,7 +93,7 @@ module _ {x : List ℕ → Laid × List ℕ} {at to : ℕ} {t : List ℕ} {h : S
   }
     where
       same : (t : List ℕ) → part (take end t) at to ≡ part t at to
-      same t = part-within t at to end l m
+      same t = part-of-front t at to end l m
 
       sliced-behind : (t : List ℕ) → take (end - to) (drop to t) ≡ drop to (take end t)
       sliced-behind t = sliced t to end m

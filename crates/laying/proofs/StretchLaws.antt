@@ -13,7 +13,7 @@ use Rattle.verify.proofs.RestLaws.{At, begins, rising, in-the-part}
 use Rattle.layout.specs.Stretches.{Stretched}
 use Rattle.layout.proofs.AheadLaws.{Marked, Ahead, ahead-starts, flexible-marked, other-marked, by-its-tag, ahead-on, ahead-stops, ahead-ends}
 use Rattle.laying.specs.Told.{bad, Wrong, Rest, Checked, NodeTold, StretchTold}
-use Rattle.laying.proofs.Places.{part-within}
+use Rattle.rigid.proofs.Places.{part-of-front}
 use Rattle.laying.proofs.Passing.{Looked, looked-starts, looked-wrong, looked-block, looked-leaf, looked-seen}
 
 -- the loop has come to `at`
@@ -57,7 +57,7 @@ module _ {s : List ℕ} {end from : ℕ} {so-far₀ : Shape} {at : ℕ} {so-far 
     own-is : shape own ≡ rigid-in (part (take end s) at to)
     own-is =
         by-its-tag (p .ahead) there ends three
-        (N .layout o ∙ ap (λ (t : ℕ). by-tag t (part s (at + 3) to)) (sym (A .whole .tag-is)) ∙ ap (by-tag (getD (take end s) at 0)) (sym (part-within s (at + 3) to end (omega (arith, begins A, rising A)) (in-the-part P A))))
+        (N .layout o ∙ ap (λ (t : ℕ). by-tag t (part s (at + 3) to)) (sym (A .whole .tag-is)) ∙ ap (by-tag (getD (take end s) at 0)) (sym (part-of-front s (at + 3) to end (omega (arith, begins A, rising A)) (in-the-part P A))))
 
     -- its mark
     pub record On (first′ bound′ : ℕ) : Type 0 where

@@ -10,7 +10,7 @@ use Rattle.rules.specs.Tree.{Frag}
 use Rattle.rules.specs.Encode.{encode}
 use Rattle.rules.specs.Layout.{Shape, layout}
 use Rattle.rules.specs.Good.{Bytes}
-use Rattle.rules.specs.Answers.{tree, check-answer, changed, left-laid, layout-outcome, laid-out}
+use Rattle.rules.specs.Answers.{tree, check-answer, check-answer-by, changed, left-laid, layout-outcome, layout-outcome-by, laid-out-by}
 use Rattle.rules.proofs.Chains.{no-path}
 use Rattle.verify.specs.Walked.{RestSaid}
 use Rattle.verify.proofs.CheckLaws.{counted, walk-answers}
@@ -29,12 +29,12 @@ use Rattle.laying.proofs.PaintedLaws.{painted-long}
 -- past the two tests the walk decides
 module _ (w : ℕ) (s : List ℕ) (h : length s ≤ most-bytes) (g : w ≤ most-columns) where
   checked-outcome : layout-outcome w s ≡ left-laid s (tree s >>= (λ t. accepted (layout newline w t)))
-  unfolding layout-outcome laid-out need _>>_ _>>=_
+  unfolding layout-outcome-by laid-out-by need _>>_ _>>=_
   checked-outcome = rw (le-leb (length s) most-bytes h, le-leb w most-columns g) refl
 
   -- the walk finds a fault: the check refuses the file
   wrong-outcome : Wrong (RestSaid in-fragment [] 0 0 0 0 (slice 0 (length s) s)) → (x : Result ℕ) → x ≡ check-answer s → (x, s) ≡ layout-outcome w s
-  unfolding left-laid _>>=_ check-answer counted
+  unfolding left-laid _>>=_ check-answer-by counted
   wrong-outcome W x e = go (tree s) refl
     where
       refuses : refused (W .faulty .number) (W .faulty .place) ≡ check-answer s

@@ -3,12 +3,11 @@ use crate::answer::BAD;
 use crate::answer::told;
 use crate::marks::mark;
 use crate::stretch::ahead;
+use crate::stretch::behind;
+use crate::stretch::is_flexible;
 use fields::Field;
 use fields::field_in;
 use fields::parts::field_end_in;
-use layout::choice::larger;
-use layout::stretch::behind;
-use layout::stretch::is_flexible;
 use rules::INDENTATION;
 use rules::MOST_BLOCKS;
 use shapes::ApproxLayout;
@@ -22,7 +21,7 @@ use shapes::second;
 ghost use mathlib.Core.Path.{_≡_};
 ghost use mathlib.Core.Bool.{true};
 ghost use mathlib.Core.List.{[]};
-ghost use Prim.Native.Nat.{ℕ, _+_, _-_, _<_, _≤_};
+ghost use Prim.Native.Nat.{_+_, _<_, max};
 ghost use lib.ListN.{length, getD, take};
 ghost use lib.Seq.{slice};
 ghost use Rattle.rules.specs.Layout as rules;
@@ -34,6 +33,15 @@ ghost use Rattle.layout.specs.Stretches.{Path};
 ghost use Rattle.laying.specs.Told.{Open};
 ghost use Rattle.laying.specs.Beside.{Clear};
 ghost use Rattle.laying.specs.Walks.{Indented, Decided, NodeWalked, FragmentsWalked, StretchWalked, FragmentWalked};
+
+fn larger(a: u16, b: u16) -> u16
+    ensures { λ r. ⌜ r ≡ max a b ⌝ }
+{
+    if a < b {
+        return b;
+    }
+    a
+}
 
 // The inline maximum that is left after what is laid out so far.
 fn room(inline_max: u16, block_max: u16, so_far: ApproxLayout) -> u16

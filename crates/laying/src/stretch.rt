@@ -5,21 +5,53 @@ use crate::answer::told;
 use crate::leaves::leaf;
 use fields::Field;
 use fields::field_in;
-use layout::stretch::Stretch;
-use layout::stretch::first_of;
-use layout::stretch::is_flexible;
 use shapes::ApproxLayout;
 use shapes::append;
 use shapes::block_or_mixed;
 use shapes::first;
 use shapes::inline;
 use shapes::is_block;
+use shapes::second;
 use verify::tables::in_fragment;
 ghost use mathlib.Core.Path.{_≡_};
+ghost use mathlib.Core.Bool.{_||_};
 ghost use Prim.Native.Nat.{_<_};
+ghost use lib.Dec.{eqb};
+ghost use Rattle.rules.specs.Bytes.{if_then_else_};
 ghost use Rattle.shapes.specs.Shapes.{shape};
 ghost use Rattle.verify.specs.Walked.{Between, Node};
+ghost use Rattle.layout.specs.LaidIn.{behind-in};
 ghost use Rattle.laying.specs.Told.{NodeTold, StretchTold};
+
+// What is laid out with the stretch's rigid layouts; where its first 3 or 4 stands and its last one ends, both where it begins without one; where the
+// stretch ends, and the rigid layout of the block that ends it, or part of a line without one.
+pub struct Stretch {
+    pub layout: ApproxLayout,
+    pub first: usize,
+    pub bound: usize,
+    pub stop: usize,
+    pub last: ApproxLayout,
+}
+
+// A 3 or a 4: only these are laid out again.
+pub fn is_flexible(tag: u8) -> bool
+    ensures { λ r. ⌜ r ≡ (eqb tag 3 || eqb tag 4) ⌝ }
+{
+    if tag == 3 {
+        return true;
+    }
+    tag == 4
+}
+
+// The first 3 or 4 of the stretch that begins at `from`, at a later one: `at` where none was seen.
+fn first_of(from: usize, first: usize, bound: usize, at: usize) -> usize
+    ensures { λ r. ⌜ r ≡ (if eqb bound from then at else first) ⌝ }
+{
+    if bound == from {
+        return at;
+    }
+    first
+}
 
 // A node of the tag, from `at` to `to`: of a block the rigid layout alone.
 fn rigid_node(s: &[u8], at: usize, to: usize, tag: u8) -> ApproxLayout
@@ -92,4 +124,14 @@ pub fn ahead(s: &[u8], from: usize, end: usize, so_far: ApproxLayout) -> Stretch
         stop: end,
         last: inline(0, 0),
     }
+}
+
+// Behind a stretch that is laid out: its block is followed by what that has on its last line.
+pub fn behind(laid: ApproxLayout, last: ApproxLayout) -> ApproxLayout
+    ensures { λ r. ⌜ shape r ≡ behind-in (shape last) (shape laid) ⌝ }
+{
+    if is_block(last) {
+        return append(laid, block_or_mixed(0, second(last)));
+    }
+    laid
 }

@@ -4,9 +4,9 @@ use Rattle.rules.specs.Bytes.{if_then_else_}
 use Rattle.rules.specs.Layout.{Shape, Inline, Block, _⊕_}
 use Rattle.rules.specs.Ahead.{stretch}
 use Rattle.rigid.specs.RigidIn.{rigid-in, by-tag}
-use Rattle.rigid.proofs.Tags.{cut-node, whole-node}
+use Rattle.rigid.proofs.Tags.{whole-node}
 use Rattle.fields.specs.Walk.{span, here, rest, part, Ends}
-use Rattle.fields.proofs.Spans.{end-after, end-within, end-less, ends-cut}
+use Rattle.fields.proofs.Spans.{end-after, end-within}
 use Rattle.fields.proofs.Loops.{Left, left-more, left-ends}
 use Rattle.layout.specs.LaidIn.{Ending, ahead-in, closed, closing}
 use Rattle.layout.specs.Stretches.{Quiet, Path, Stretched}
@@ -67,12 +67,6 @@ not-either a b e = (λ p. false≢true (sym e ∙ rw p), λ p. false≢true (sym
 pub whole-end : {s : List ℕ} {at to : ℕ} → Ends s at to → 3 ≤ length s - at → at + 3 ≤ to
 unfolding span
 whole-end {s} {at} e h = omega (arith, e .end, length-drop at s)
-
-pub whole-within : {s : List ℕ} {at to : ℕ} → Ends s at to → 3 ≤ length s - at → to ≤ length s
-whole-within e h = end-within e (omega arith)
-
-pub whole-less : {s : List ℕ} {at to : ℕ} → Ends s at to → 3 ≤ length s - at → length s - to < length s - at
-whole-less e h = end-less e (omega arith)
 
 -- no node is left
 pub ahead-ends : {s : List ℕ} {from : ℕ} {so-far₀ : Shape} {at : ℕ} {so-far : Shape} {first bound : ℕ} → Ahead s from so-far₀ at so-far first bound
@@ -164,12 +158,3 @@ module _ {s : List ℕ} {from : ℕ} {so-far₀ : Shape} {at : ℕ} {so-far : Sh
           block-is : (k : ℕ) → length s ≤ at + k → {x : Ending} → x ≡ closing k at (drop at s) → x ≡ (to, own)
           block-is zero l w = absurd (omega arith)
           block-is (suc k) l w = w ∙ closing-step k at (drop at s) some-left ∙ rw (← block-here, ← e .end) (ap (λ (o : Shape). (to, o)) (sym is))
-
-  -- under three bytes are left
-  pub ahead-cut : from < length s → at < length s → length s - at < 3 → {first′ bound′ : ℕ} → first′ ≡ (if eqb bound from then at else first) → bound′ ≡ length s
-      → so-far ⊕ Inline 0 0 ≡ so-far → {last : Shape} → last ≡ Inline 0 0 → Stretched s from so-far₀ so-far first′ bound′ (length s, last)
-  ahead-cut f h g {first′} {bound′} i b c q =
-      let e : Ends s at (length s) = ends-cut s at h g in
-      let o : Inline 0 0 ≡ rigid-in (part s at (length s)) = cut-node s at (length s) (le-of-lt h) (omega arith) g refl in
-      let P : Ahead s from so-far₀ (length s) so-far first′ bound′ = ahead-on h e (flexible-marked h e i b) o refl (sym c) in
-      ahead-ends P f (omega arith) q

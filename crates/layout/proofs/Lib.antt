@@ -8,5 +8,3 @@ pub mod Counted
 pub mod Rows
 pub mod Nodes
 pub mod OfTrees
-pub mod WholeLaws
-pub mod Determined

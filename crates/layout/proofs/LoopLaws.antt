@@ -16,9 +16,6 @@ use Rattle.layout.proofs.StretchLaws.{ahead-nil, here-at, before-end, a
 
 -- ---- a block's fragments
 
-pub fragments-start : (g : List ℕ → Laid × List ℕ) (s : List ℕ) {x : Shape} → x ≡ Inline 0 0 → Part (with-fragment g) 3 (Inline 0 0, 0) s 3 (x, 0) s
-fragments-start g s e = rw e starts
-
 pub fragment-more : (g : List ℕ → Laid × List ℕ) (so-far : Shape) (n : ℕ) (h r : List ℕ) {l : Laid} {ys : List ℕ} {x : Shape} {m : ℕ}
     → Is (g h) l ys → x ≡ so-far ⊕ (l .0) → m ≡ cap (n + l .1) → Is (with-fragment g (so-far, n) h r) (x, m) ys
 unfolding with-fragment
@@ -193,15 +190,6 @@ module _ {g : Shape → List ℕ → Laid × List ℕ} {a b : ℕ} {so-far₀ : 
                 (omega (arith, f, cap-more (c + n) (l .1), cap-min (c + m), cap-min (n + l .1), cap-min (c + n + l .1)));
           };
         }
-
-    pub along-rises : node < b → {to : ℕ} → Ends s node to → node ≤ to
-    along-rises h z = le-of-lt (end-after z (omega (arith, p .path .inside)))
-
-    pub along-inside : node < b → {to : ℕ} → Ends s node to → to ≤ length s
-    along-inside h z = end-within z (omega (arith, p .path .inside))
-
-    pub along-less : node < b → {to : ℕ} → Ends s node to → length s₀ - to < length s₀ - node
-    along-less h z = let k : node < length s = omega (arith, p .path .inside) in omega (arith, end-after z k, end-within z k, p .long)
 
     pub along-ends : b ≤ node → Onwards g a b so-far₀ s₀ (so-far, n) s
     along-ends h = let q : node ≡ b = omega (arith, path-rises (p .path)) in rw q at (p .done)

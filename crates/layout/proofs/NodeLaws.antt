@@ -4,15 +4,7 @@ use Rattle.rules.specs.Layout.{Shape, Block, _⊕_, room}
 use Rattle.fields.specs.Walk.{Is}
 use Rattle.layout.specs.LaidIn.{Laid, decided, fragments-in, node-in, nodes-in, flex-in, fragment-in}
 
--- what says the same is the same
-pub says : {x : Laid × List ℕ} {l l′ : Laid} {s : List ℕ} → l ≡ l′ → Is x l′ s → Is x l s
-says e h = record { value = e ∙ h .value; bytes = h .bytes }
-
 module _ (left i b : ℕ) (so-far : Shape) (s : List ℕ) where
-  pub no-depth : left ≡ 0 → Is (flex-in left i b so-far s) (so-far, 0) s
-  unfolding flex-in
-  no-depth e = rw e (record { value = refl; bytes = refl })
-
   pub other-tag : (getD s 0 0 ≡ 3 → ⊥) → (getD s 0 0 ≡ 4 → ⊥) → Is (flex-in left i b so-far s) (so-far, 0) s
   unfolding flex-in node-in
   other-tag p q = go left
@@ -20,13 +12,6 @@ module _ (left i b : ℕ) (so-far : Shape) (s : List ℕ) where
       go : (d : ℕ) → Is (flex-in d i b so-far s) (so-far, 0) s
       go zero = record { value = refl; bytes = refl }
       go (suc d) = rw (ne-eqb (getD s 0 0) 3 p, ne-eqb (getD s 0 0) 4 q) (record { value = refl; bytes = refl })
-
-  pub no-bytes : length s ≡ 0 → Is (flex-in left i b so-far s) (so-far, 0) s
-  no-bytes e = other-tag (λ p. not-there s e 3 p (omega arith)) (λ p. not-there s e 4 p (omega arith))
-    where
-      not-there : (s : List ℕ) → length s ≡ 0 → (t : ℕ) → getD s 0 0 ≡ t → 0 < t → ⊥
-      not-there [] e t p l = absurd (omega (arith, p))
-      not-there (x ∷ s) e t p l = absurd (omega arith)
 
   -- a 3: its fragments are laid out at the block's maximum, and it is a Block
   pub tag-three : getD s 0 0 ≡ 3 → (left ≡ 0 → ⊥) → {m : ℕ} → m ≡ b - 20 → {l : Laid} {s′ : List ℕ} → Is (fragments-in (fragment-in (left - 1) m m 3) s) l s′

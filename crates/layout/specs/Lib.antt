@@ -1,4 +1,3 @@
 -- Layout by the bytes of a file.
 pub mod LaidIn
 pub mod Stretches
-pub mod Said

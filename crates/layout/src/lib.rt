@@ -1,5 +1,1 @@
-// Layout, in place: each block that may stand inline or indented is decided, and where it does not fit its tag 4 becomes a 3.
-pub mod choice;
-pub mod flex;
-pub mod stretch;
-pub mod whole;
+// Layout by the bytes of a file, as definitions, and the theorems that this is layout on its tree. Definitions and theorems alone: the code is the crate `laying`.

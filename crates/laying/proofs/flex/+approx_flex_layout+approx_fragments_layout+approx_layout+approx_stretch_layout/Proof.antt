@@ -29,9 +29,9 @@ use Rattle.laying.proofs.flex.room.Reads as room-reads
 use Rattle.laying.proofs.flex.decide.Reads as decide-reads
 use Rattle.laying.proofs.answer.told.Reads as told-reads
 use Rattle.laying.proofs.stretch.ahead.Reads as ahead-reads
-use Rattle.layout.proofs.choice.larger.Reads as larger-reads
-use Rattle.layout.proofs.stretch.behind.Reads as behind-reads
-use Rattle.layout.proofs.stretch.is_flexible.Reads as is-flexible-reads
+use Rattle.laying.proofs.flex.larger.Reads as larger-reads
+use Rattle.laying.proofs.stretch.behind.Reads as behind-reads
+use Rattle.laying.proofs.stretch.is_flexible.Reads as is-flexible-reads
 use Rattle.fields.proofs.field_in.Reads as field-in-reads
 use Rattle.fields.proofs.parts.field_end_in.Reads as field-end-in-reads
 use Rattle.shapes.proofs.append.Reads as append-reads

@@ -1,9 +1,9 @@
--- `layout::stretch::behind` meets its contract: behind a block, or behind the last node.
+-- `laying::stretch::behind` meets its contract: behind a block, or behind the last node.
 use Rattle.rules.proofs.Basics.{refl, needs}
 use Rattle.shapes.proofs.Numbers.{line, lines}
 use Rattle.layout.specs.LaidIn.{behind-in}
-use Rattle.layout.proofs.stretch.behind.Statement.{statement}
-use Rattle.layout.proofs.stretch.behind.Tie as tie
+use Rattle.laying.proofs.stretch.behind.Statement.{statement}
+use Rattle.laying.proofs.stretch.behind.Tie as tie
 
 pub behind-spec : {M : Type 1} → statement M
 behind-spec = tie.close (tie.spec (λ c κs. search needs) (λ c κs. search needs) (λ c κs. search needs) (λ c κs. search needs)
