@@ -42,6 +42,10 @@ pub record Tells (r : ℕ) (All : Result (Unit {0}) → Type 0) : Type 0 where
 abbrev pub LeafSaid : (s : List ℕ) (t at to : ℕ) → Result (Unit {0}) → Type 0
 LeafSaid s t at to x = (d : ℕ) → ValueSaid t d at (slice (at + 3) to s) x
 
+-- the tag of a leaf that has a value
+pub record Valued (t : ℕ) : Type 0 where
+  pub last : (t ≡ 1 → ⊥) → (t ≡ 2 → ⊥) → t ≡ 7
+
 pub record LeafTold (s : List ℕ) (t at to r : ℕ) : Type 0 where
   pub check : Tells r (LeafSaid s t at to)
   pub layout : (r ≡ bad → ⊥) → shape r ≡ by-tag t (part s (at + 3) to)

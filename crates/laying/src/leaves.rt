@@ -7,23 +7,43 @@ use rigid::columns;
 use shapes::ApproxLayout;
 use shapes::block_or_mixed;
 use shapes::inline;
+use verify::content::check_text;
 use verify::glance::fills;
+use verify::inner::check_anchor_fields;
+use verify::inner::check_text_fields;
 use verify::verdict::SOUND;
-use verify::walk::check_leaf;
+use verify::verdict::Verdict;
 ghost use mathlib.Core.Path.{_≡_};
-ghost use Prim.Native.Nat.{_+_};
-ghost use Rattle.verify.specs.Walked.{Between, Leaf};
-ghost use Rattle.laying.specs.Told.{LeafTold, QuickTold};
+ghost use Prim.Native.Nat.{ℕ, _+_};
+ghost use lib.Seq.{slice};
+ghost use Rattle.verify.specs.Said.{verdict};
+ghost use Rattle.verify.specs.Walked.{Between, Leaf, ValueSaid};
+ghost use Rattle.laying.specs.Told.{Valued, LeafTold, QuickTold};
 
 // The width of a byte without a style.
 const BYTE: u16 = 10;
 
-// Any node of the tag, from `at` to `to`: the check, then the layout.
+// The check of a 1, a 2 or a 7. It stands here as well as in `verify`, where it is one function with the node around it as long as nothing else calls it.
+fn check_value(s: &[u8], at: usize, to: usize, tag: u8) -> Verdict
+    requires { ⌜ Leaf (now s) tag at to × Valued tag ⌝ }
+    ensures { λ r. ⌜ ((d : ℕ) → ValueSaid tag d at (slice (at + 3) to (now (s .entry))) (verdict r)) ⌝ }
+{
+    let from = at + 3;
+    if tag == 1 {
+        return check_text_fields(s, from, to, at);
+    }
+    if tag == 2 {
+        return check_anchor_fields(s, from, to, at);
+    }
+    check_text(s, from, to, at)
+}
+
+// Any of these, from `at` to `to`: the check, then the layout.
 fn any_leaf(s: &[u8], at: usize, to: usize, tag: u8) -> ApproxLayout
-    requires { ⌜ Leaf (now s) tag at to ⌝ }
+    requires { ⌜ Leaf (now s) tag at to × Valued tag ⌝ }
     ensures { λ r. ⌜ LeafTold (now (s .entry)) tag at to r ⌝ }
 {
-    if check_leaf(s, at, to, tag) != SOUND {
+    if check_value(s, at, to, tag) != SOUND {
         return BAD;
     }
     told(approx_rigid_layout(tag, s, at + 3, to))

@@ -27,7 +27,7 @@ ghost use Rattle.verify.specs.Said.{verdict};
 ghost use Rattle.verify.specs.Walked.{RestSaid, ValueSaid, Between, Node, Leaf};
 
 // The value of a node that is no block: the node stands from `at` to `to`.
-pub fn check_leaf(s: &[u8], at: usize, to: usize, tag: u8) -> Verdict
+fn check_leaf(s: &[u8], at: usize, to: usize, tag: u8) -> Verdict
     requires { ⌜ Leaf (now s) tag at to ⌝ }
     ensures { λ r. ⌜ ((d : ℕ) → ValueSaid tag d at (slice (at + 3) to (now (s .entry))) (verdict r)) ⌝ }
 {
