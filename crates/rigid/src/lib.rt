@@ -114,7 +114,7 @@ fn is_colour(s: &[u8], from: usize, to: usize) -> bool
 }
 
 // The width of a byte under the style from..to.
-pub fn style_width(s: &[u8], from: usize, to: usize) -> u16
+fn style_width(s: &[u8], from: usize, to: usize) -> u16
     requires { ⌜ (from ≤ to) × (to ≤ length (now s)) ⌝ }
     ensures { λ r. ⌜ r ≡ byte-width (effective (styles-in (part (now (s .entry)) from to))) ⌝ }
 {
@@ -137,14 +137,15 @@ fn styled_run(s: &[u8], at: usize, end: usize, from: usize, to: usize) -> Approx
     else {
         return any_run(&s[at..end]);
     };
+    let w = style_width(s, from, to);
     if lacks(s, f, e, b'\n') {
-        return inline(columns(e - f, style_width(s, from, to)), 0);
+        return inline(columns(e - f, w), 0);
     }
-    any_run(&s[at..end])
+    text_layout(&s[f..e], w)
 }
 
 // The value at..end of a 1. Most texts are short and of one line, which a quick look shows.
-pub fn run_layout(s: &[u8], at: usize, end: usize) -> ApproxLayout
+fn run_layout(s: &[u8], at: usize, end: usize) -> ApproxLayout
     requires { ⌜ (at ≤ end) × (end ≤ length (now s)) ⌝ }
     ensures { λ r. ⌜ shape r ≡ run-in (part (now (s .entry)) at end) ⌝ }
 {
@@ -157,7 +158,7 @@ pub fn run_layout(s: &[u8], at: usize, end: usize) -> ApproxLayout
     if lacks(s, from, to, b'\n') {
         return inline(columns(to - from, BYTE), 0);
     }
-    any_run(&s[at..end])
+    text_layout(&s[from..to], BYTE)
 }
 
 // The field at..to of a 2, after the ones before it: a 1 is appended.
@@ -201,7 +202,7 @@ fn only_if_block(a: ApproxLayout) -> ApproxLayout
 }
 
 // The value from..to of a 7.
-pub fn if_block_layout(s: &[u8], from: usize, to: usize) -> ApproxLayout
+fn if_block_layout(s: &[u8], from: usize, to: usize) -> ApproxLayout
     requires { ⌜ (from ≤ to) × (to ≤ length (now s)) ⌝ }
     ensures { λ r. ⌜ shape r ≡ only-if-block (text-in 10 (part (now (s .entry)) from to)) ⌝ }
 {

@@ -104,7 +104,7 @@ fn right_sizes(s: &[u8], at: usize, stop: usize) -> bool
 }
 
 // The fields of a 16. Most are a colour alone.
-pub fn right_styles(s: &[u8], from: usize, stop: usize) -> bool
+fn right_styles(s: &[u8], from: usize, stop: usize) -> bool
     requires { ⌜ (from ≤ stop) × (stop < length (now s)) ⌝ }
     ensures { λ r. ⌜ Says r ((d place : ℕ) → Between (now (s .entry)) place from stop → RestSaid in-styles [] d 0 place from (slice from stop (now (s .entry))) (accepted tt)) ⌝ }
 {
