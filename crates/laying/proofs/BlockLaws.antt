@@ -1,5 +1,5 @@
 -- The loop over the nodes of a stretch from its first block to its last: its start, a turn and its end.
-use Rattle.rules.proofs.Basics.{_≡_, refl, sym, ap, subst, _∙_, List, Bool, true, false, _||_, or-true, false≢true, ℕ, _+_, _-_, _≤_, _<_, le-of-lt, arith, eqb, eq-eqb, length, getD, take, drop, take-append-drop, length-take-le, _++_}
+use Rattle.rules.proofs.Basics.{_≡_, refl, sym, ap, subst, _∙_, List, Bool, true, false, ℕ, _+_, _-_, _≤_, _<_, le-of-lt, arith, eqb, eq-eqb, length, getD, take, drop, take-append-drop, length-take-le, _++_}
 use Rattle.rules.specs.Bytes.{cap}
 use Rattle.rules.specs.Walk.{is-block}
 use Rattle.rules.specs.Layout.{Shape}
@@ -82,7 +82,7 @@ module _ {d i b a bound : ℕ} {so-far₀ : Shape} {s : List ℕ} {end : ℕ} {w
     next-less = omega (arith, rising (next-node .there), within)
 
     -- a leaf stays
-    pub leaf-turn : {r : Bool} → r ≡ (eqb (getD s node 0) 3 || eqb (getD s node 0) 4) → r ≡ false → BlocksAt d i b a bound so-far₀ s end ws₀ to h ws
+    pub leaf-turn : {r : Bool} → r ≡ is-block (getD s node 0) → r ≡ false → BlocksAt d i b a bound so-far₀ s end ws₀ to h ws
     unfolding is-block part
     leaf-turn q z =
         let u : List ℕ = take end (painted ws s) in

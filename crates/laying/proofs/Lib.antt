@@ -12,3 +12,4 @@ pub mod FragmentLaws
 pub mod BlockLaws
 pub mod WholeFragments
 pub mod WholeLaws
+pub mod Determined

@@ -1,5 +1,5 @@
 -- The loop over a stretch's nodes, for its layout and for its check: its start, a turn and its end.
-use Rattle.rules.proofs.Basics.{_≡_, refl, sym, ap, subst, _∙_, List, Bool, true, false, _||_, ℕ, _+_, _-_, _<_, _≤_, arith, eqb, length, getD, take, length-take-le}
+use Rattle.rules.proofs.Basics.{_≡_, refl, sym, ap, subst, _∙_, List, Bool, true, false, ℕ, _+_, _-_, _<_, _≤_, arith, eqb, length, getD, take, length-take-le}
 use Rattle.rules.specs.Bytes.{if_then_else_}
 use Rattle.rules.specs.Walk.{in-fragment, allowed, is-block}
 use Rattle.rules.specs.Layout.{Shape, Inline, Block, _⊕_}
@@ -64,13 +64,13 @@ module _ {s : List ℕ} {end from : ℕ} {so-far₀ : Shape} {at : ℕ} {so-far 
       pub marks : Marked (take end s) from to first′ bound′
       pub looked : Looked s end from to first′ bound′
 
-    pub block-on : {r : Bool} → r ≡ (eqb t 3 || eqb t 4) → r ≡ true → {first′ bound′ : ℕ} → first′ ≡ (if eqb bound from then at else first) → bound′ ≡ to → On first′ bound′
+    pub block-on : {r : Bool} → r ≡ is-block t → r ≡ true → {first′ bound′ : ℕ} → first′ ≡ (if eqb bound from then at else first) → bound′ ≡ to → On first′ bound′
     block-on q z f b = record { marks = flexible-marked (p .ahead) there ends f b; looked = looked-block (p .looked) node-checked (p .ahead .marks .begins) f b }
 
-    pub leaf-on : {r : Bool} → r ≡ (eqb t 3 || eqb t 4) → r ≡ false → {first′ bound′ : ℕ} → first′ ≡ first → bound′ ≡ bound → On first′ bound′
+    pub leaf-on : {r : Bool} → r ≡ is-block t → r ≡ false → {first′ bound′ : ℕ} → first′ ≡ first → bound′ ≡ bound → On first′ bound′
     unfolding is-block
     leaf-on q z f b = record {
-      marks = other-marked (p .ahead) there ends (q ∙ ap (λ (t : ℕ). eqb t 3 || eqb t 4) (sym (A .whole .tag-is))) z f b;
+      marks = other-marked (p .ahead) there ends (q ∙ ap is-block (sym (A .whole .tag-is))) z f b;
       looked = looked-leaf (p .looked) node-checked (sym q ∙ z) f b;
     }
 

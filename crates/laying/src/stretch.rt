@@ -14,10 +14,10 @@ use shapes::is_block;
 use shapes::second;
 use verify::tables::in_fragment;
 ghost use mathlib.Core.Path.{_≡_};
-ghost use mathlib.Core.Bool.{_||_};
 ghost use Prim.Native.Nat.{_<_};
 ghost use lib.Dec.{eqb};
 ghost use Rattle.rules.specs.Bytes.{if_then_else_};
+ghost use Rattle.rules.specs.Walk.{is-block};
 ghost use Rattle.shapes.specs.Shapes.{shape};
 ghost use Rattle.verify.specs.Walked.{Between, Node};
 ghost use Rattle.layout.specs.LaidIn.{behind-in};
@@ -35,7 +35,7 @@ pub struct Stretch {
 
 // A 3 or a 4: only these are laid out again.
 pub fn is_flexible(tag: u8) -> bool
-    ensures { λ r. ⌜ r ≡ (eqb tag 3 || eqb tag 4) ⌝ }
+    ensures { λ r. ⌜ r ≡ is-block tag ⌝ }
 {
     if tag == 3 {
         return true;

@@ -1,7 +1,6 @@
 -- `approx_flex_layout`, `approx_fragments_layout`, `approx_layout` and `approx_stretch_layout` meet their contracts: the blocks that may still stand around a
 -- node fall; the loops' invariants are `FragmentsAt`, `NodesAt` and `BlocksAt`.
 use Rattle.rules.proofs.Basics.{sym, arith, needs, refl, ℕ, _+_, _*_, _-_, _∙_, not-true, not-false, ⊎-elim}
-use Rattle.rules.specs.Walk.{is-block}
 use borrow.Fn.PlainCycle.{Measures}
 use Rattle.fields.proofs.Cycles.{at, below}
 use Rattle.shapes.specs.Shapes.{shape}
@@ -122,7 +121,7 @@ pub +approx-flex-layout+approx-fragments-layout+approx-layout+approx-stretch-lay
     (λ c κs. search needs)
     (λ c. let I = c .before .before .before .before .before .loop .inv in let g = c .before .before .before .before .loop-test .taken in let e = c .before .before .before .field-end-in .ensures in next-less I g e)
     (λ c. let I = c .before .before .before .before .before .loop .inv in let g = c .before .before .before .before .loop-test .taken in let e = c .before .before .before .field-end-in .ensures in leaf-turn I g e (c .before .is-flexible .ensures) (not-true _ (c .if1 .taken)))
-    (λ c κs. let I = c .before .before .before .before .before .before .loop .inv in let g = c .before .before .before .before .before .loop-test .taken in let e = c .before .before .before .before .field-end-in .ensures in (omega (arith, c .before .before .before .before .before .before .before .before .pre .0), (I .clear, (next-value I g e, unfold is-block in sym (c .before .before .is-flexible .ensures) ∙ not-false _ (c .before .if1 .left)))))
+    (λ c κs. let I = c .before .before .before .before .before .before .loop .inv in let g = c .before .before .before .before .before .loop-test .taken in let e = c .before .before .before .before .field-end-in .ensures in (omega (arith, c .before .before .before .before .before .before .before .before .pre .0), (I .clear, (next-value I g e, sym (c .before .before .is-flexible .ensures) ∙ not-false _ (c .before .if1 .left)))))
     (λ c. let I = c .before .before .before .before .before .before .before .before .loop .inv in let g = c .before .before .before .before .before .before .before .loop-test .taken in let e = c .before .before .before .before .before .before .field-end-in .ensures in block-wrong I g e (c .before .approx-flex-layout .ensures) (c .if2 .taken))
     (λ c. let I = c .before .before .before .before .before .before .before .before .loop .inv in let g = c .before .before .before .before .before .before .before .loop-test .taken in let e = c .before .before .before .before .before .before .field-end-in .ensures in next-less I g e)
     (λ c. let I = c .before .before .before .before .before .before .before .before .loop .inv in let g = c .before .before .before .before .before .before .before .loop-test .taken in let e = c .before .before .before .before .before .before .field-end-in .ensures in block-turn I g e (c .before .approx-flex-layout .ensures) (c .if2 .left))
