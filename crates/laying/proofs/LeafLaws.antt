@@ -12,10 +12,10 @@ use Rattle.fields.specs.Walk.{part}
 use Rattle.fields.specs.FieldAt.{field-at, length-at}
 use Rattle.fields.specs.declared.Field.the-variants.{Whole}
 use Rattle.fields.proofs.Laws.{whole-in}
-use Rattle.looks.specs.Calm.{Calm, Says}
+use Rattle.looks.specs.Calm.{Calm, Lacks, Says}
 use Rattle.looks.proofs.CalmBytes.{calm-utf8}
 use Rattle.rigid.specs.RigidIn.{wide, by-tag}
-use Rattle.rigid.proofs.Lines.{calm-if-block}
+use Rattle.rigid.proofs.Lines.{lacking-if-block}
 use Rattle.rigid.proofs.Runs.{plain-quick}
 use Rattle.verify.specs.Said.{verdict}
 use Rattle.verify.specs.Walked.{ValueSaid, Between, Leaf}
@@ -70,6 +70,10 @@ line-fine : {r a b : ℕ} → shape r ≡ Inline a b → Fine r (Inline a b)
 unfolding shape number.is-block number.first number.second number.of-widths
 line-fine {r} {a} {b} e = record { says = e; other = λ z. let q : Block 0 0 ≡ Inline a b = sym (ap shape z) ∙ e in no-path (cc) }
 
+-- a look that finds bytes calm finds that they lack what it looks for
+no-newline : {s : List ℕ} {from to : ℕ} {c : Bool} → Says c (Calm 10 s from to) → Says c (Lacks 10 s from to)
+no-newline C = record { says = λ e. record { each = λ k l m. C .says e .each k l m .1 } }
+
 -- the field that is found there
 stands-there : {s : List ℕ} {place at end : ℕ} → Between s place at end → {t to : ℕ} → Stands s t at to → to ≤ end → field-at (take end s) at ≡ Whole t (at + 3) to
 stands-there {s} {at = at} {end} P S h = sym (whole-in s at end (P .ends) (length-at s at) refl (omega (arith, S .ends, h))) ∙ rw (S .tag, S .ends)
@@ -89,13 +93,13 @@ module _ {s : List ℕ} {at to : ℕ} (P : Between s at (at + 3) to) where
   text-found f t C y x q = record {
     found = λ o. let S = f .says t in
         found-line (λ d. run-value d _ _ refl refl (filled-alone P S (calm-utf8 (P .ends) (omega (arith, S .ends)) (C .says y)) d)) q
-        (plain-quick s (at + 3) to (P .ends) 17 (at + 3 + 3) to refl (stands-there P S (omega arith)) (λ z. absurd (omega (arith, z))) C y x refl);
+        (plain-quick s (at + 3) to (P .ends) 17 (at + 3 + 3) to refl (stands-there P S (omega arith)) (λ z. absurd (omega (arith, z))) (no-newline C) y x refl);
   }
 
   -- a 7 of one line
   pub note-found : {c : Bool} → Says c (Calm 10 s (at + 3) to) → c ≡ true → {x : ℕ} → x ≡ wide (to - (at + 3)) 10 → {r : ℕ} → shape r ≡ Inline x x → QuickTold s 7 at to r
   unfolding by-tag
-  note-found C y x q = record { found = λ o. found-line (λ d. note-value d _ _ refl (calm-text P (C .says y) refl)) q (calm-if-block (P .rising) (P .ends) C y x refl) }
+  note-found C y x q = record { found = λ o. found-line (λ d. note-value d _ _ refl (calm-text P (C .says y) refl)) q (lacking-if-block (P .rising) (P .ends) (no-newline C) y x refl) }
 
 -- a tag of a fragment that is no other
 among : (t : ℕ) → 1 ≤ t → t ≤ 7 → (t ≡ 1 → ⊥) → (t ≡ 2 → ⊥) → (t ≡ 3 → ⊥) → (t ≡ 4 → ⊥) → (t ≡ 5 → ⊥) → (t ≡ 7 → ⊥) → t ≡ 6
