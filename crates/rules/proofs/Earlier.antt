@@ -3,7 +3,7 @@ use Rattle.rules.proofs.Basics.{_≡_, refl, sym, _∙_, ap, subst, Lis
 use Rattle.rules.specs.Limits.{last-style}
 use Rattle.rules.specs.Bytes.{number}
 use Rattle.rules.specs.Result.{Result, accepted, _>>=_, _>>_, need}
-use Rattle.rules.specs.Walk.{Holder, in-fragment, in-block, in-text, in-anchor, in-styles, Fields, Field, Value, put, Content, content, allowed-to, front-to, valued, walk-to, check-to, holds}
+use Rattle.rules.specs.Walk.{Holder, in-fragment, in-block, in-text, in-anchor, in-styles, Fields, Field, Value, put, Content, content, allowed-to, front-to, valued, walk-to, check, check-to, holds}
 use Rattle.rules.specs.Tree.{read-to}
 use Rattle.rules.specs.Good.{depth-in}
 use Rattle.rules.specs.Answers.{itself, tree, check-answer, check-answer-by, layout-outcome, layout-outcome-by, laid-out-by, plain-outcome, plain-outcome-by, plain-text-by, body-outcome, body-outcome-by, body-text-by, document-outcome, document-outcome-by, document-text-by}
@@ -82,12 +82,18 @@ module _ (asked : Content) where
 
 -- ---- the answers
 
-same-tree : (s : List ℕ) → without-39 s ≡ true → earlier-tree s ≡ tree s
-unfolding without-39 earlier-tree tree read-to check-to
-same-tree s e = rw (walk-alike content (length s) in-fragment 0 0 0 s e)
+same-fields : (s : List ℕ) → without-39 s ≡ true → check-to earlier-last content itself s ≡ check content itself s
+unfolding without-39 check-to
+same-fields s e = rw (walk-alike content (length s) in-fragment 0 0 0 s e)
 
--- what every entry answers and leaves is what it was
+same-tree : (s : List ℕ) → without-39 s ≡ true → earlier-tree s ≡ tree s
+unfolding earlier-tree tree read-to
+same-tree s e = rw (same-fields s e)
+
+-- what is read of a file, of which masks and pairs are made, is what it was; and so is what every other entry answers and leaves
 pub record AsBefore (s : List ℕ) : Type 0 where
+  pub fields : check-to earlier-last content itself s ≡ check content itself s
+  pub read : earlier-tree s ≡ tree s
   pub checked : check-answer-by earlier-tree s ≡ check-answer s
   pub laid-out : (w : ℕ) → layout-outcome-by earlier-tree w s ≡ layout-outcome w s
   pub plain : (page : List ℕ) → plain-outcome-by earlier-tree s page ≡ plain-outcome s page
@@ -98,4 +104,4 @@ pub as-before : (s : List ℕ) → without-39 s ≡ true → AsBefore s
 unfolding check-answer-by layout-outcome-by laid-out-by plain-outcome-by plain-text-by body-outcome-by body-text-by document-outcome-by document-text-by
 as-before s e =
     let same : earlier-tree s ≡ tree s = same-tree s e in
-    record { checked = rw same; laid-out = λ w. rw same; plain = λ page. rw same; body = λ page. rw same; document = λ page. rw same }
+    record { fields = same-fields s e; read = same; checked = rw same; laid-out = λ w. rw same; plain = λ page. rw same; body = λ page. rw same; document = λ page. rw same }
