@@ -32,15 +32,15 @@ painted-at ws s i h = let e : 0 + i ≡ i = omega arith in painted-from-at ws 0 
 
 -- ---- no mark
 
-pub painted-clear : (ws s : List ℕ) → ((i : ℕ) → getD ws i 0 ≡ 0) → painted ws s ≡ s
+pub painted-clear : (ws s : List ℕ) → ((i : ℕ) → i < length s → getD ws (i / 64) 0 ≡ 0) → painted ws s ≡ s
 unfolding marked
-painted-clear ws s z = ext-getD 0 _ _ (painted-long ws s) (λ i h. painted-at ws s i (omega (arith, painted-long ws s)) ∙ ap (λ (b : Bool). if b then 3 else getD s i 0) (none i))
+painted-clear ws s z = ext-getD 0 _ _ (painted-long ws s) (λ i h. let l : i < length s = omega (arith, painted-long ws s) in painted-at ws s i l ∙ ap (λ (b : Bool). if b then 3 else getD s i 0) (none i l))
   where
-    none : (i : ℕ) → eqb (getD ws (i / 64) 0 / 2 ^ (i % 64) % 2) 1 ≡ false
-    none i = ap (λ (w : ℕ). eqb (w / 2 ^ (i % 64) % 2) 1) (z (i / 64)) ∙ ap (λ (w : ℕ). eqb (w % 2) 1) (div-eq-of-lt (pow-pos (i % 64)))
+    none : (i : ℕ) → i < length s → eqb (getD ws (i / 64) 0 / 2 ^ (i % 64) % 2) 1 ≡ false
+    none i h = ap (λ (w : ℕ). eqb (w / 2 ^ (i % 64) % 2) 1) (z i h) ∙ ap (λ (w : ℕ). eqb (w % 2) 1) (div-eq-of-lt (pow-pos (i % 64)))
 
 pub painted-none : (n : ℕ) (s : List ℕ) → painted (replicate n 0) s ≡ s
-painted-none n s = painted-clear (replicate n 0) s (all-zero n)
+painted-none n s = painted-clear (replicate n 0) s (λ i h. all-zero n (i / 64))
   where
     all-zero : (n i : ℕ) → _≡_ {A = ℕ} (getD (replicate n 0) i 0) 0
     all-zero zero i = refl

@@ -3,7 +3,6 @@ use Rattle.rules.proofs.Basics.{_≡_, refl, sym, ap, subst, _∙_, List, [], _
 use native.Mathlib.Nat.{div-eq-of-lt, lt-trans}
 use lib.Pow.{pow-pos, pow-lt, shr-shr}
 use lib.Bits.{bitOr, or-add-and, and-le-l, and-le-r}
-use lib.ListN.{List·getD-eq-default}
 use lib.Seq.{take-suc-set, drop-set-lt, getD-drop}
 use Rattle.rules.specs.Bytes.{if_then_else_}
 use Rattle.rules.specs.Answers.{changed}
@@ -269,8 +268,5 @@ unfolding changed
 none-changed k [] = refl
 none-changed k (x ∷ s) = rw (eq-eqb x x refl) (none-changed (suc k) s)
 
-pub nothing-shown : (ws s : List ℕ) → length ws ≡ 938 → {all : ℕ} → Most ws 938 all → all ≡ 0 → ShownAll ws s s 0
-nothing-shown ws s l m z = record { bytes = sym (painted-clear ws s each); count = sym (none-changed 0 s) }
-  where
-    each : (i : ℕ) → getD ws i 0 ≡ 0
-    each i = elim (decLt i 938) [ yes h ↦ omega (arith, m i h, z) | no h ↦ List·getD-eq-default ws 0 (omega (arith, h, l)) ]
+pub nothing-shown : (ws s : List ℕ) {all : ℕ} → Most ws ((length s + 63) / 64) all → all ≡ 0 → ShownAll ws s s 0
+nothing-shown ws s m z = record { bytes = sym (painted-clear ws s (λ i h. omega (arith, m (i / 64) (omega arith), z))); count = sym (none-changed 0 s) }

@@ -53,13 +53,14 @@ fn show_word(s: &mut [u8], from: usize, word: u64, count: usize) -> usize
     n
 }
 
-// The bits of all marks together, without an exit, which the compiler makes several words wide.
-fn all_marks(bits: &[u64; 938]) -> u64
-    ensures { λ r. ⌜ ((i : ℕ) → i < 938 → getD (now (bits .entry)) i 0 ≤ r) ⌝ }
+// The bits of the first n words together, without an exit, which the compiler makes several words wide.
+fn all_marks(bits: &[u64; 938], n: usize) -> u64
+    requires { ⌜ n ≤ 938 ⌝ }
+    ensures { λ r. ⌜ ((i : ℕ) → i < n → getD (now (bits .entry)) i 0 ≤ r) ⌝ }
 {
     let mut all = 0;
     let mut i = 0;
-    while i < 938 {
+    while i < n {
         all = all | bits[i];
         i += 1;
     }
@@ -71,7 +72,7 @@ pub fn show_all(s: &mut [u8], bits: &[u64; 938]) -> usize
     requires { ⌜ (length (now s) ≤ 60_000) × (length (now bits) ≡ 938) ⌝ }
     ensures { λ r. ⌜ ShownAll (now (bits .entry)) (now (s .entry)) (now (s .exit)) r ⌝ }
 {
-    if all_marks(bits) == 0 {
+    if all_marks(bits, (s.len() + 63) / 64) == 0 {
         return 0;
     }
     let mut n = 0;

@@ -11,7 +11,8 @@ abbrev μ-loop : tie.MeasureT-loop
 μ-loop s₀ bits n₀ i₀ s n i = length s₀ - i * 64
 
 pub show-all-spec : {M : Type 1} → statement M
-show-all-spec = tie.close (tie.spec Inv-loop μ-loop (λ c κs. search needs) (λ c. let b : tie.Start Inv-loop μ-loop = search in nothing-shown _ _ (b .pre .1) (c .before .all-marks .ensures) (c .if1 .taken))
+show-all-spec = tie.close (tie.spec Inv-loop μ-loop (λ c. let b : tie.Start Inv-loop μ-loop = search in record { fits = omega (arith, b .pre .0) })
+    (λ c κs. let b : tie.Start Inv-loop μ-loop = search in omega (arith, b .pre .0)) (λ c. nothing-shown _ _ (c .before .all-marks .ensures) (c .if1 .taken))
     (λ c. words-start _ _) (λ c. let b : tie.Start Inv-loop μ-loop = search in let I = c .loop .inv in record { fits = omega (arith, I .near, b .pre .0) })
     (λ c. let b : tie.Start Inv-loop μ-loop = search in let I = c .before .before .loop .inv in record { fits = omega (arith, I .near, b .pre .0) })
     (λ c. let b : tie.Start Inv-loop μ-loop = search in let I = c .before .before .loop .inv in record { fits = omega (arith, I .near, b .pre .0) })
