@@ -1,6 +1,6 @@
 -- The search for a text, field by field.
 use Rattle.rules.proofs.Basics.{_≡_, refl, sym, _∙_, List, Bool, true, false, _&&_, none, some, ℕ, zero, suc, _+_, _-_, _<_, _≤_, arith, eqb, length}
-use Rattle.rules.specs.Mask.{is-text}
+use Rattle.rules.specs.Walk.{is-text}
 use Rattle.fields.specs.declared.Field.{Field}
 use Rattle.fields.specs.declared.Field.the-variants.{Whole}
 use Rattle.fields.specs.FieldAt.{field-at}

@@ -1,7 +1,8 @@
 -- The mask of the fields passed so far, one field after the other.
 use Rattle.rules.proofs.Basics.{_≡_, refl, sym, ap, ap₂, subst, _∙_, List, [], _∷_, _++_, append-assoc, append-nil, Bool, true, false, ℕ, zero, suc, _+_, _-_, _<_, _≤_, arith, length, length-map, length-append, length-take-le, length-drop, length-replicate, replicate, take, drop}
 use lib.Seq.{take-add}
-use Rattle.rules.specs.Mask.{is-text, newlines, mask-byte, mask-bytes}
+use Rattle.rules.specs.Walk.{is-text}
+use Rattle.rules.specs.Mask.{newlines, mask-byte, mask-bytes}
 use Rattle.fields.specs.declared.Field.{Field}
 use Rattle.fields.specs.declared.Field.the-variants.{Whole}
 use Rattle.fields.specs.FieldAt.{field-at}

@@ -2,7 +2,8 @@
 use Rattle.rules.proofs.Basics.{_≡_, refl, sym, ap, subst, _∙_, List, [], _∷_, _++_, append-assoc, Bool, true, false, inl, inr, ℕ, zero, suc, _+_, _-_, _<_, _≤_, min, arith, decLt, length, length-append, length-replicate, getD, replicate, getD-replicate}
 use lib.ListN.{List·getD-append}
 use lib.Seq.{getD-append-add}
-use Rattle.rules.specs.Mask.{is-text, newlines, mask-byte, mask-bytes}
+use Rattle.rules.specs.Walk.{is-text}
+use Rattle.rules.specs.Mask.{newlines, mask-byte, mask-bytes}
 use Rattle.fields.specs.declared.Field.{Field}
 use Rattle.fields.specs.declared.Field.the-variants.{Whole}
 use Rattle.fields.specs.FieldAt.{field-at}

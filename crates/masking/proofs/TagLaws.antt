@@ -1,8 +1,8 @@
 -- What a tag is not, and a byte of a text in the mask.
 use Rattle.rules.proofs.Basics.{_≡_, ℕ, true, false, eqb, ne-eqb}
 use Rattle.rules.specs.Bytes.{has}
-use Rattle.rules.specs.Walk.{holds}
-use Rattle.rules.specs.Mask.{is-text, newlines, mask-byte}
+use Rattle.rules.specs.Walk.{holds, is-text}
+use Rattle.rules.specs.Mask.{newlines, mask-byte}
 use Rattle.pairs.specs.Flat.{is-some, is-holder}
 
 pub no-holder : (t : ℕ) → (t ≡ 1 → ⊥) → (t ≡ 2 → ⊥) → (t ≡ 3 → ⊥) → (t ≡ 4 → ⊥) → (t ≡ 8 → ⊥) → (t ≡ 16 → ⊥) → false ≡ is-holder t

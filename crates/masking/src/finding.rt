@@ -6,7 +6,7 @@ use fields::field_in;
 ghost use mathlib.Core.Path.{_≡_};
 ghost use mathlib.Core.Bool.{_&&_};
 ghost use lib.Dec.{eqb};
-ghost use Rattle.rules.specs.Mask.{is-text};
+ghost use Rattle.rules.specs.Walk.{is-text};
 ghost use Rattle.pairs.specs.Flat.{length-at-place};
 ghost use Rattle.masking.specs.Finding.{found};
 

@@ -1,6 +1,7 @@
 // What a field's tag says: whether its value is a text, whether it is fields, and where the next field stands.
 ghost use mathlib.Core.Path.{_≡_};
-ghost use Rattle.rules.specs.Mask.{is-text, newlines, mask-byte};
+ghost use Rattle.rules.specs.Walk.{is-text};
+ghost use Rattle.rules.specs.Mask.{newlines, mask-byte};
 ghost use Rattle.pairs.specs.Flat.{is-holder, next-place};
 ghost use mathlib.Core.Bool.{true};
 

@@ -3,12 +3,12 @@
 use Rattle.rules.proofs.Basics.{_≡_, refl, sym, ap, ap₂, _∙_, List, [], _∷_, map, Option, none, some, Option·map, Bool, true, false, _&&_, _||_, inl, ℕ, suc, _+_, _<_, zero-add, arith, eqb, length, length-map, length-append, getD, ne-eqb}
 use Rattle.rules.specs.Bytes.{if_then_else_, has}
 use Rattle.rules.specs.Result.{accepted, _>>=_}
-use Rattle.rules.specs.Walk.{Fields, end, bytes, inside, check, content}
+use Rattle.rules.specs.Walk.{Fields, end, bytes, inside, check, content, is-text}
 use Rattle.rules.specs.Tree.{Frag, map-fields}
 use Rattle.rules.specs.Encode.{field, encode-fields, frag-fields}
 use Rattle.rules.specs.Good.{Bytes}
 use Rattle.rules.specs.Answers.{itself, tree, check-answer, check-answer-by}
-use Rattle.rules.specs.Mask.{is-text, in-texts, text-places, Byte-alike, newlines, newlines-and-escapes, mask-byte, mask-bytes, mask}
+use Rattle.rules.specs.Mask.{in-texts, text-places, Byte-alike, newlines, newlines-and-escapes, mask-byte, mask-bytes, mask}
 use Rattle.rules.specs.Alike.{AlikeFiles, plain-page, at, places}
 use Rattle.rules.proofs.Chains.{bind-inv}
 use Rattle.rules.proofs.Lists.{if-map}

@@ -3,12 +3,12 @@ use Rattle.rules.proofs.Basics.{_≡_, refl, sym, ap, ap₂, _∙_, List, [], _
 use mathlib.Core.Option.{Option}
 use Rattle.rules.specs.Bytes.{if_then_else_}
 use Rattle.rules.specs.Result.{accepted}
-use Rattle.rules.specs.Walk.{Fields, end, bytes, inside, Holder, holds}
+use Rattle.rules.specs.Walk.{Fields, end, bytes, inside, Holder, holds, is-text}
 use Rattle.rules.specs.Encode.{field, encode-fields, frag-fields, encode}
 use Rattle.rules.specs.Tree.{Frag}
 use Rattle.rules.specs.Good.{Bytes, Good}
 use Rattle.rules.specs.Answers.{tree}
-use Rattle.rules.specs.Mask.{is-text, in-texts, accepted-texts, text-places}
+use Rattle.rules.specs.Mask.{in-texts, accepted-texts, text-places}
 use Rattle.rules.proofs.Files.{tree-read, Read}
 use Rattle.rules.proofs.Typed.{fields-not}
 use Rattle.rules.proofs.Chains.{no-path}

@@ -5,12 +5,12 @@ use mathlib.Core.Logic.{⊎-elim}
 use native.Mathlib.Nat.{eq-or-lt-of-le}
 use Rattle.rules.specs.Bytes.{if_then_else_, has}
 use Rattle.rules.specs.Result.{Result, accepted, refused, _>>=_, _>>_, need}
-use Rattle.rules.specs.Walk.{Fields, end, bytes, inside}
+use Rattle.rules.specs.Walk.{Fields, end, bytes, inside, is-text}
 use Rattle.rules.specs.Tree.{Frag}
 use Rattle.rules.specs.Encode.{field, encode-fields, frag-fields, encode}
 use Rattle.rules.specs.Good.{Bytes}
 use Rattle.rules.specs.Answers.{tree, check-answer}
-use Rattle.rules.specs.Mask.{is-text, in-texts, accepted-texts, text-places, newlines, mask-byte, mask-bytes, mask}
+use Rattle.rules.specs.Mask.{in-texts, accepted-texts, text-places, newlines, mask-byte, mask-bytes, mask}
 use Rattle.rules.proofs.Chains.{no-path, bind-inv, need-inv}
 use Rattle.rules.proofs.Files.{tree-read, Read}
 use Rattle.pairs.specs.Pair.{first-difference, same, or-else, text-in, found-or, text-at, pair-text, length-of, pair-answer, part-of, given-text}

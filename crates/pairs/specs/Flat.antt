@@ -8,8 +8,7 @@ use lib.Dec.{eqb}
 use lib.ListN.{length, replicate}
 use Rattle.rules.specs.Bytes.{if_then_else_}
 use Rattle.rules.specs.Result.{Result, refused, accepted}
-use Rattle.rules.specs.Walk.{Holder, holds}
-use Rattle.rules.specs.Mask.{is-text}
+use Rattle.rules.specs.Walk.{Holder, holds, is-text}
 use Rattle.fields.specs.declared.Field.{Field}
 use Rattle.fields.specs.declared.Field.the-variants.{Whole, Past, Cut}
 use Rattle.fields.specs.FieldAt.{field-at}

@@ -7,10 +7,10 @@ use lib.Dec.{eqb}
 use lib.ListN.{length, take, drop}
 use Rattle.rules.specs.Bytes.{if_then_else_}
 use Rattle.rules.specs.Result.{Result, refused, accepted, _>>=_, _>>_, need}
-use Rattle.rules.specs.Walk.{Fields, end, bytes, inside, content, check}
+use Rattle.rules.specs.Walk.{Fields, end, bytes, inside, content, check, is-text}
 use Rattle.rules.specs.Encode.{encode-fields}
 use Rattle.rules.specs.Answers.{itself, tree}
-use Rattle.rules.specs.Mask.{is-text, newlines, mask}
+use Rattle.rules.specs.Mask.{newlines, mask}
 use Rattle.pairs.specs.declared.Answer.{Answer}
 use Rattle.pairs.specs.declared.Answer.the-variants.{Length, Refused}
 

@@ -1,7 +1,7 @@
 -- Demand 3 on the rules. Two accepted files that are equal but for bytes inside texts, newlines at the same places, are one tree over places filled
 -- in two ways. So layout changes the same tags and leaves such files again, and one list of page bytes gives both plain pages; for HTML with & and
 -- < at the same places.
-use Rattle.rules.proofs.Basics.{_≡_, refl, sym, _∙_, ap, ap₂, List, [], _∷_, map, Bool, true, false, inl, ℕ, suc, _≤_, _<_, zero-add, arith, leb, eqb, length, getD, leb-true, leb-false}
+use Rattle.rules.proofs.Basics.{_≡_, refl, sym, _∙_, ap, ap₂, List, [], _∷_, map, Bool, true, false, inl, ℕ, suc, _≤_, _<_, zero-add, arith, leb, eqb, length, getD, take, leb-true, leb-false}
 use mathlib.Core.Path.{fun-ext}
 use lib.ListN.{List·getD-eq-default}
 use Rattle.rules.specs.Limits.{most-columns}
@@ -13,10 +13,10 @@ use Rattle.rules.specs.Encode.{encode}
 use Rattle.rules.specs.Layout.{layout}
 use Rattle.rules.specs.Lines.{Out, made, copied}
 use Rattle.rules.specs.Plain.{plain, fill}
-use Rattle.rules.specs.Html.{ampersand, less-than, as-it-is, escape, body, document}
+use Rattle.rules.specs.Html.{Escape, ampersand, less-than, carriage-return, as-it-is, escape, strict-escape, body, document}
 use Rattle.rules.specs.Answers.{itself, tree, changed, left-laid, layout-outcome, written, left-page, plain-text-by, plain-outcome-by, body-text-by, body-outcome-by, document-text-by, document-outcome-by}
 use Rattle.rules.specs.Mask.{text-places, Byte-alike, Alike}
-use Rattle.rules.specs.Alike.{AlikeFiles, SameLayout, Page, plain-page, html-body, html-document, outcome-of, kept, shown, at, places, place-tree, page-list, OneList}
+use Rattle.rules.specs.Alike.{AlikeFiles, SameLayout, Page, plain-page, html-body, html-document, strict-body, strict-document, outcome-of, kept, Clear, tree-of, look-of, shown, at, places, place-tree, page-list, OneList}
 use Rattle.rules.proofs.Maps.{map-frag}
 use Rattle.rules.proofs.Files.{tree-read}
 use Rattle.rules.proofs.Laid.{layout-laid}
@@ -28,6 +28,7 @@ use Rattle.rules.proofs.Places.{placed, like-places, shown-map, list-be
 use Rattle.rules.proofs.Masked.{file-and-mask}
 use Rattle.rules.proofs.LeftLaid.{turned-bytes, laid, turns, turned-byte, laid-places, laid-passes, laid-by-width}
 use Rattle.rules.proofs.Filled.{same-changed}
+use Rattle.rules.proofs.Strict.{clear-tree}
 
 -- ---- one tree
 
@@ -67,6 +68,8 @@ unfolding newline
 newline-shown plain-page a b e = cc
 newline-shown html-body a b e = cc
 newline-shown html-document a b e = cc
+newline-shown strict-body a b e = cc
+newline-shown strict-document a b e = cc
 
 escape-shown : Shows (kept html-body) escape
 unfolding escape
@@ -74,6 +77,13 @@ escape-shown a b e =
     let f : eqb a 38 ≡ eqb b 38 = cc in
     let g : eqb a 60 ≡ eqb b 60 = cc in
     ap₂ (λ f g. if f then ampersand else if g then less-than else as-it-is) f g
+
+strict-escape-shown : Shows (kept strict-body) strict-escape
+unfolding strict-escape
+strict-escape-shown a b e =
+    let more : map (λ k. eqb a k) (kept html-body) ≡ map (λ k. eqb b k) (kept html-body) = ap (take 3) e in
+    let r : eqb a 13 ≡ eqb b 13 = cc in
+    ap₂ (λ (r : Bool) (x : Escape). if r then carriage-return else x) r (escape-shown a b more)
 
 -- so the places of two alike files are alike by it
 seen : {A : Type 0} {kept s s′ : List ℕ} (q : ℕ → A) → Shows kept q → Alike kept s s′ → _≡_ {A = ℕ → A} (λ p. q (at s p)) (λ p. q (at s′ p))
@@ -92,24 +102,28 @@ seen {kept = kept} {s} {s′} q S A = fun-ext (λ p. go p (leb (length s) p) ref
 -- ---- pages
 
 -- what a page's entry answers and leaves, whichever page it is
-pub by-kind : (k : Page) (s q : List ℕ) → outcome-of k s q ≡ left-page (tree s >>= (λ t. accepted (fill itself (shown k escape newline t)))) q
+pub by-kind : (k : Page) (s q : List ℕ) → outcome-of k s q ≡ left-page (tree-of k s >>= (λ t. accepted (fill itself (shown k (look-of k) newline t)))) q
 unfolding plain-outcome-by plain-text-by body-outcome-by body-text-by document-outcome-by document-text-by
 by-kind plain-page s q = refl
 by-kind html-body s q = refl
 by-kind html-document s q = refl
+by-kind strict-body s q = refl
+by-kind strict-document s q = refl
 
-page-left : (k : Page) (s q : List ℕ) (t : Frag ℕ) → tree s ≡ accepted t → outcome-of k s q ≡ left-page (accepted (fill itself (shown k escape newline t))) q
+page-left : (k : Page) (s q : List ℕ) (t : Frag ℕ) → tree-of k s ≡ accepted t → outcome-of k s q ≡ left-page (accepted (fill itself (shown k (look-of k) newline t))) q
 unfolding _>>=_
-page-left k s q t e = by-kind k s q ∙ ap (λ r. left-page (r >>= (λ t. accepted (fill itself (shown k escape newline t)))) q) e
+page-left k s q t e = by-kind k s q ∙ ap (λ r. left-page (r >>= (λ t. accepted (fill itself (shown k (look-of k) newline t)))) q) e
 
-page-filled : (k : Page) (s : List ℕ) (t : Frag ℕ) → fill itself (shown k escape newline (map-frag (at s) t)) ≡ fill (at s) (shown k (λ p. escape (at s p)) (λ p. newline (at s p)) t)
-page-filled k s t = ap (fill itself) (shown-map k (at s) escape newline t) ∙ fill-map (at s) itself (shown k (λ p. escape (at s p)) (λ p. newline (at s p)) t)
+page-filled : (k : Page) (s : List ℕ) (t : Frag ℕ) → fill itself (shown k (look-of k) newline (map-frag (at s) t)) ≡ fill (at s) (shown k (λ p. look-of k (at s p)) (λ p. newline (at s p)) t)
+page-filled k s t = ap (fill itself) (shown-map k (at s) (look-of k) newline t) ∙ fill-map (at s) itself (shown k (λ p. look-of k (at s p)) (λ p. newline (at s p)) t)
 
 shown-same : (k : Page) {s s′ : List ℕ} → Alike (kept k) s s′ → (t : Frag ℕ)
-    → shown k (λ p. escape (at s p)) (λ p. newline (at s p)) t ≡ shown k (λ p. escape (at s′ p)) (λ p. newline (at s′ p)) t
+    → shown k (λ p. look-of k (at s p)) (λ p. newline (at s p)) t ≡ shown k (λ p. look-of k (at s′ p)) (λ p. newline (at s′ p)) t
 shown-same plain-page A t = ap (λ n. plain n t) (seen newline (newline-shown plain-page) A)
 shown-same html-body A t = λ i. body (seen escape escape-shown A i) (seen newline (newline-shown html-body) A i) t
 shown-same html-document A t = λ i. document (seen escape escape-shown A i) (seen newline (newline-shown html-document) A i) t
+shown-same strict-body A t = λ i. body (seen strict-escape strict-escape-shown A i) (seen newline (newline-shown strict-body) A i) t
+shown-same strict-document A t = λ i. document (seen strict-escape strict-escape-shown A i) (seen newline (newline-shown strict-document) A i) t
 
 -- ALIKE FILES HAVE ONE LIST
 same-list : (k : Page) {s s′ : List ℕ} → AlikeFiles (kept k) s s′ → page-list k s ≡ page-list k s′
@@ -132,16 +146,16 @@ left-answer x q = go (leb (length x) (length q))
     go false = refl
 
 -- ONE LIST GIVES BOTH PAGES
-pub one-list : (k : Page) (s s′ q q′ : List ℕ) → AlikeFiles (kept k) s s′ → length q ≡ length q′ → OneList k s s′ q q′ (outcome-of k s q) (outcome-of k s′ q′)
+pub one-list : (k : Page) (s s′ q q′ : List ℕ) → AlikeFiles (kept k) s s′ → Clear k s → Clear k s′ → length q ≡ length q′ → OneList k s s′ q q′ (outcome-of k s q) (outcome-of k s′ q′)
 unfolding page-list _>>=_
-one-list k s s′ q q′ F m =
+one-list k s s′ q q′ F C C′ m =
     let T = one-tree F in
-    let os : List (Out ℕ) = shown k (λ p. escape (at s p)) (λ p. newline (at s p)) (T .over) in
+    let os : List (Out ℕ) = shown k (λ p. look-of k (at s p)) (λ p. newline (at s p)) (T .over) in
     let l : page-list k s ≡ accepted os = rw (T .read) in
     let l′ = sym (same-list k F) ∙ l in
-    let o : outcome-of k s q ≡ left-page (accepted (fill (at s) os)) q = page-left k s q _ (T .filled) ∙ ap (λ x. left-page (accepted x) q) (page-filled k s (T .over)) in
+    let o : outcome-of k s q ≡ left-page (accepted (fill (at s) os)) q = page-left k s q _ (clear-tree k s _ (F .bytes) (T .filled) C) ∙ ap (λ x. left-page (accepted x) q) (page-filled k s (T .over)) in
     let o′ : outcome-of k s′ q′ ≡ left-page (accepted (fill (at s′) os)) q′ =
-    page-left k s′ q′ _ (T .filled′) ∙ ap (λ x. left-page (accepted x) q′) (page-filled k s′ (T .over) ∙ ap (fill (at s′)) (sym (shown-same k (F .alike) (T .over)))) in
+    page-left k s′ q′ _ (clear-tree k s′ _ (F .bytes′) (T .filled′) C′) ∙ ap (λ x. left-page (accepted x) q′) (page-filled k s′ (T .over) ∙ ap (fill (at s′)) (sym (shown-same k (F .alike) (T .over)))) in
     record {
       same-answer = rw (o, o′, left-answer (fill (at s) os) q, left-answer (fill (at s′) os) q′, fill-length (at s) os, fill-length (at s′) os, m);
       list = os;

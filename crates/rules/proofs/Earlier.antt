@@ -5,6 +5,7 @@ use Rattle.rules.specs.Bytes.{number}
 use Rattle.rules.specs.Result.{Result, accepted, _>>=_, _>>_, need}
 use Rattle.rules.specs.Walk.{Holder, in-fragment, in-block, in-text, in-anchor, in-styles, Fields, Field, Value, put, Content, content, allowed-to, front-to, valued, walk-to, check, check-to, holds}
 use Rattle.rules.specs.Tree.{read-to}
+use Rattle.rules.specs.Html.{escape}
 use Rattle.rules.specs.Good.{depth-in}
 use Rattle.rules.specs.Answers.{itself, tree, check-answer, check-answer-by, layout-outcome, layout-outcome-by, laid-out-by, plain-outcome, plain-outcome-by, plain-text-by, body-outcome, body-outcome-by, body-text-by, document-outcome, document-outcome-by, document-text-by}
 use Rattle.rules.specs.Earlier.{earlier-last, earlier-tree, underlines, of-inside, not-underlined, without-39}
@@ -97,8 +98,8 @@ pub record AsBefore (s : List ℕ) : Type 0 where
   pub checked : check-answer-by earlier-tree s ≡ check-answer s
   pub laid-out : (w : ℕ) → layout-outcome-by earlier-tree w s ≡ layout-outcome w s
   pub plain : (page : List ℕ) → plain-outcome-by earlier-tree s page ≡ plain-outcome s page
-  pub body : (page : List ℕ) → body-outcome-by earlier-tree s page ≡ body-outcome s page
-  pub document : (page : List ℕ) → document-outcome-by earlier-tree s page ≡ document-outcome s page
+  pub body : (page : List ℕ) → body-outcome-by earlier-tree escape s page ≡ body-outcome s page
+  pub document : (page : List ℕ) → document-outcome-by earlier-tree escape s page ≡ document-outcome s page
 
 pub as-before : (s : List ℕ) → without-39 s ≡ true → AsBefore s
 unfolding check-answer-by layout-outcome-by laid-out-by plain-outcome-by plain-text-by body-outcome-by body-text-by document-outcome-by document-text-by

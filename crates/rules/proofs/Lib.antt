@@ -10,6 +10,7 @@ pub mod Accepted
 pub mod Encoded
 pub mod Typed
 pub mod Files
+pub mod Strict
 pub mod Maps
 pub mod Lists
 pub mod Lengths

@@ -3,12 +3,12 @@ use Rattle.rules.proofs.Basics.{_≡_, refl, sym, _∙_, ap, List, [], 
 use Rattle.rules.specs.Bytes.{if_then_else_, has}
 use Rattle.rules.specs.Utf8.{utf8, utf8-after, following}
 use Rattle.rules.specs.Result.{accepted, _>>=_}
-use Rattle.rules.specs.Walk.{Fields, check, text-content, content}
+use Rattle.rules.specs.Walk.{Fields, check, text-content, content, is-text}
 use Rattle.rules.specs.Tree.{read, read-to}
 use Rattle.rules.specs.Good.{Bytes}
 use Rattle.rules.specs.Answers.{tree, check-answer, check-answer-by}
-use Rattle.rules.specs.Mask.{is-text, text-places, Byte-alike, mask-byte, mask-bytes, mask}
-use Rattle.rules.specs.Alike.{AlikeFiles, Page, plain-page, html-body, html-document, kept, at, places}
+use Rattle.rules.specs.Mask.{text-places, Byte-alike, mask-byte, mask-bytes, mask}
+use Rattle.rules.specs.Alike.{AlikeFiles, Page, plain-page, html-body, html-document, strict-body, strict-document, kept, at, places}
 use Rattle.rules.proofs.Chains.{no-path}
 use Rattle.rules.proofs.ReadMap.{map-result}
 use Rattle.rules.proofs.Reread.{Like, Sound, check-same}
@@ -124,3 +124,5 @@ unfolding has
 file-and-mask plain-page = with-mask (kept plain-page) (omega arith) refl
 file-and-mask html-body = with-mask (kept html-body) (omega arith) refl
 file-and-mask html-document = with-mask (kept html-document) (omega arith) refl
+file-and-mask strict-body = with-mask (kept strict-body) (omega arith) refl
+file-and-mask strict-document = with-mask (kept strict-document) (omega arith) refl

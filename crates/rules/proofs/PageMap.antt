@@ -4,7 +4,7 @@ use Rattle.rules.specs.Bytes.{ascii}
 use Rattle.rules.specs.Tree.{Frag}
 use Rattle.rules.specs.Lines.{Item, char, marked, Mark, push, pop, open-anchor, close-anchor, Out, made, copied}
 use Rattle.rules.specs.Plain.{chars, plain, fill}
-use Rattle.rules.specs.Html.{Escape, ampersand, less-than, as-it-is, makes, copies, escaped, id-attribute, mark-html, item-html, items-html, body, document}
+use Rattle.rules.specs.Html.{Escape, ampersand, less-than, carriage-return, as-it-is, makes, copies, escaped, id-attribute, mark-html, item-html, items-html, body, document}
 use Rattle.rules.proofs.Maps.{map-frag, map-out, map-item, map-mark}
 use Rattle.rules.proofs.Lists.{map-append, map-map}
 use Rattle.rules.proofs.LayoutMap.{old}
@@ -44,6 +44,7 @@ module _ {X Y : Type 0} (f : X → Y) where
   unfolding escaped
   escaped-map ampersand x = makes-map (ascii "&amp;")
   escaped-map less-than x = makes-map (ascii "&lt;")
+  escaped-map carriage-return x = makes-map (ascii "&#13;")
   escaped-map as-it-is x = refl
 
   id-map : (d : Bool) (a : List X) → id-attribute d (map f a) ≡ map (map-out f) (id-attribute d a)

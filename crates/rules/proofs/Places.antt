@@ -2,15 +2,15 @@
 use Rattle.rules.proofs.Basics.{_≡_, refl, sym, _∙_, ap, ap₂, subst, List, [], _∷_, _++_, map, Bool, false, ℕ, zero, suc, _+_, _<_, _≤_, zero-add, add-zero, arith, length, getD, replicate, length-map}
 use Rattle.rules.specs.Bytes.{newline}
 use Rattle.rules.specs.Result.{Result, refused, accepted}
-use Rattle.rules.specs.Walk.{Fields, end, bytes, inside, in-fragment, check, content}
+use Rattle.rules.specs.Walk.{Fields, end, bytes, inside, in-fragment, check, content, is-text}
 use Rattle.rules.specs.Tree.{Frag, map-fields, frag-of, read}
 use Rattle.rules.specs.Encode.{frag-fields}
 use Rattle.rules.specs.Good.{Bytes, Good}
 use Rattle.rules.specs.Lines.{Out, made, copied}
 use Rattle.rules.specs.Html.{Escape}
 use Rattle.rules.specs.Answers.{itself, tree, check-answer, check-answer-by}
-use Rattle.rules.specs.Mask.{is-text, in-texts, accepted-texts, text-places}
-use Rattle.rules.specs.Alike.{Page, plain-page, html-body, html-document, shown, at, places, place-tree, Below}
+use Rattle.rules.specs.Mask.{in-texts, accepted-texts, text-places}
+use Rattle.rules.specs.Alike.{Page, plain-page, html-body, html-document, strict-body, strict-document, shown, at, places, place-tree, Below}
 use Rattle.rules.proofs.Chains.{no-path, bind-inv}
 use Rattle.rules.proofs.Files.{tree-read, frag-back}
 use Rattle.rules.proofs.Maps.{map-frag, map-out}
@@ -87,6 +87,8 @@ pub shown-map : (k : Page) {X Y : Type 0} (f : X → Y) (look : Y → Escape) (n
 shown-map plain-page f look newline t = plain-map f newline t
 shown-map html-body f look newline t = body-map f look newline t
 shown-map html-document f look newline t = document-map f look newline t
+shown-map strict-body f look newline t = body-map f look newline t
+shown-map strict-document f look newline t = document-map f look newline t
 
 -- a place below n
 abbrev Place : ℕ → Type 0

@@ -4,10 +4,10 @@ use Rattle.rules.proofs.Basics.{_≡_, refl, sym, _∙_, ap, ap₂, sub
 use Rattle.rules.specs.Limits.{most-bytes, first-style, last-style}
 use Rattle.rules.specs.Bytes.{if_then_else_, within, has, number}
 use Rattle.rules.specs.Result.{Result, accepted, _>>=_, _>>_, need, Check, sound}
-use Rattle.rules.specs.Walk.{Fields, end, bytes, inside, Holder, in-fragment, in-styles, Field, Value, of-bytes, of-fields, put, front, front-to, Content, valued, walk, walk-to, check, check-to, tags, holds, allowed, allowed-to}
+use Rattle.rules.specs.Walk.{Fields, end, bytes, inside, Holder, in-fragment, in-styles, Field, Value, of-bytes, of-fields, put, front, front-to, Content, valued, walk, walk-to, check, check-to, tags, holds, allowed, allowed-to, is-text}
 use Rattle.rules.specs.Tree.{Frag, text, anchor, space, force, if-block, leaf, block, frag, indented, flexible, map-fields, bytes-of, fields-of, or-empty, run-of, runs-of, anchor-of, frag-of, frags-of, read, read-to}
 use Rattle.rules.specs.Good.{depth-in, AllHold, GoodAs}
-use Rattle.rules.specs.Mask.{is-text, in-texts}
+use Rattle.rules.specs.Mask.{in-texts}
 use Rattle.rules.proofs.Chains.{bind-inv, need-inv, sound-inv, all-sound}
 use Rattle.rules.proofs.Typed.{fields-not, good-inside}
 

@@ -2,14 +2,13 @@
 use Rattle.rules.proofs.Basics.{_≡_, refl, sym, _∙_, ap, ap₂, List, [], _∷_, _++_, map, append-nil, Option, none, some, Bool, true, false, and-eq-true-iff, ℕ, _≤_, _<_, arith, leb, ltb, eqb, leb-true, ne-eqb}
 use Rattle.rules.specs.Limits.{first-style, last-style}
 use Rattle.rules.specs.Bytes.{if_then_else_, within}
-use Rattle.rules.specs.Walk.{Fields, end, bytes, inside, in-fragment, in-block, in-text, in-anchor, in-styles, holds, allowed, allowed-to}
+use Rattle.rules.specs.Walk.{Fields, end, bytes, inside, in-fragment, in-block, in-text, in-anchor, in-styles, holds, allowed, allowed-to, is-text}
 use Rattle.rules.specs.Tree.{styles-of, Run, Leaf, text, anchor, space, force, if-block, indented, flexible, Frag, stop, leaf, block, Frags, none-left, frag}
 use Rattle.rules.specs.Encode.{run-fields, runs-fields, anchor-tag, leaf-fields, block-tag, frag-fields, frags-fields}
 use Rattle.rules.specs.Good.{Good}
 use Rattle.rules.specs.Lines.{push, pop, open-anchor, close-anchor, char, marked, copied}
 use Rattle.rules.specs.Plain.{chars, fill}
 use Rattle.rules.specs.Answers.{itself}
-use Rattle.rules.specs.Mask.{is-text}
 use Rattle.rules.specs.SameWords.{texts}
 use Rattle.rules.proofs.Typed.{inner-good, fields-not}
 use Rattle.rules.proofs.Runs.{Items, chars-append}

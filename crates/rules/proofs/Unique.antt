@@ -2,7 +2,7 @@
 -- number that a C name answers says the answer.
 use Rattle.rules.proofs.Basics.{_≡_, refl, sym, _∙_, ap, List, [], _∷_, ℕ, _+_, _-_, _*_, _/_, _%_, _≤_, arith, getD, ne-eqb}
 use Rattle.rules.specs.declared.Refusal.{Refusal}
-use Rattle.rules.specs.declared.Refusal.the-variants.{TooLong, TooWide, Cut, WrongTag, WrongLength, TooDeep, NotUtf8, BadStyle, QuoteInAnchor, PageTooShort}
+use Rattle.rules.specs.declared.Refusal.the-variants.{TooLong, TooWide, Cut, WrongTag, WrongLength, TooDeep, NotUtf8, BadStyle, QuoteInAnchor, PageTooShort, NulInText}
 use Rattle.rules.specs.declared.Answer.{Answer}
 use Rattle.rules.specs.declared.Answer.the-variants.{Done, Refused}
 use Rattle.rules.specs.Result.{Result, refused, accepted, refusal, said}
@@ -13,7 +13,7 @@ abbrev by-number : ℕ → ℕ → Refusal
 by-number n p =
     getD
     (TooLong ∷ TooWide ∷ Cut p ∷ WrongTag p ∷ WrongLength p ∷ TooDeep p ∷ NotUtf8 p ∷ BadStyle p ∷ QuoteInAnchor p ∷ PageTooShort p ∷ [])
-    (n - 1) TooLong
+    (n - 1) (NulInText p)
 
 abbrev answer-of : Result ℕ → Answer
 answer-of (refused n p) = Refused (by-number n p)
@@ -32,6 +32,7 @@ answer-back (Refused (NotUtf8 p)) = refl
 answer-back (Refused (BadStyle p)) = refl
 answer-back (Refused (QuoteInAnchor p)) = refl
 answer-back (Refused (PageTooShort p)) = refl
+answer-back (Refused (NulInText p)) = refl
 
 -- TWO ANSWERS THAT SAY THE SAME ARE THE SAME
 pub said-unique : (a b : Answer) → said a ≡ said b → a ≡ b

@@ -12,9 +12,9 @@ use Rattle.rules.specs.Tree.{Frag, read}
 use Rattle.rules.specs.Good.{Bytes}
 use Rattle.rules.specs.Lines.{Out, made, copied}
 use Rattle.rules.specs.Plain.{plain, fill}
-use Rattle.rules.specs.Html.{Escape, escape, body, document}
-use Rattle.rules.specs.Answers.{check-answer, changed, left-page, plain-outcome, body-outcome, document-outcome}
-use Rattle.rules.specs.Mask.{Alike, newlines, newlines-and-escapes, mask}
+use Rattle.rules.specs.Html.{Escape, escape, strict-escape, body, document}
+use Rattle.rules.specs.Answers.{tree, strict-tree, check-answer, changed, left-page, plain-outcome, body-outcome, document-outcome, strict-body-outcome, strict-document-outcome}
+use Rattle.rules.specs.Mask.{Alike, Without, newlines, newlines-and-escapes, newlines-and-strict-escapes, mask}
 
 -- files of bytes that the file check accepts and that are equal but for bytes inside texts, where each kept byte stands alike
 pub record AlikeFiles (kept s s′ : List ℕ) : Type 0 where
@@ -35,26 +35,56 @@ pub record SameLayout (kept s s′ : List ℕ) (o o′ : Result ℕ × List ℕ)
 
 -- ---- pages
 
--- the three pages, and what the entry of each answers and leaves
+-- the pages, and what the entry of each answers and leaves
 pub data Page : Type 0 where
-  plain-page html-body html-document : Page
+  plain-page html-body html-document strict-body strict-document : Page
 
 abbrev pub outcome-of : Page → (s page : List ℕ) → Result ℕ × List ℕ
 outcome-of plain-page s page = plain-outcome s page
 outcome-of html-body s page = body-outcome s page
 outcome-of html-document s page = document-outcome s page
+outcome-of strict-body s page = strict-body-outcome s page
+outcome-of strict-document s page = strict-document-outcome s page
 
 -- the bytes in texts that the page depends on
 abbrev pub kept : Page → List ℕ
 kept plain-page = newlines
 kept html-body = newlines-and-escapes
 kept html-document = newlines-and-escapes
+kept strict-body = newlines-and-strict-escapes
+kept strict-document = newlines-and-strict-escapes
+
+-- strict pages are of files that have no NUL in a text
+abbrev pub Clear : Page → List ℕ → Type 0
+Clear plain-page s = Unit {0}
+Clear html-body s = Unit {0}
+Clear html-document s = Unit {0}
+Clear strict-body s = Without 0 s
+Clear strict-document s = Without 0 s
+
+-- how its file is read
+abbrev pub tree-of : Page → List ℕ → Result (Frag ℕ)
+tree-of plain-page = tree
+tree-of html-body = tree
+tree-of html-document = tree
+tree-of strict-body = strict-tree
+tree-of strict-document = strict-tree
+
+-- how a byte of a text is written in HTML
+abbrev pub look-of : Page → ℕ → Escape
+look-of plain-page = escape
+look-of html-body = escape
+look-of html-document = escape
+look-of strict-body = strict-escape
+look-of strict-document = strict-escape
 
 -- a tree's page, where X stands for a byte: its bytes, made here or copied
 abbrev pub shown : Page → {X : Type 0} → (X → Escape) → (newline : X → Bool) → Frag X → List (Out X)
 shown plain-page look newline t = plain newline t
 shown html-body look newline t = body look newline t
 shown html-document look newline t = document look newline t
+shown strict-body look newline t = body look newline t
+shown strict-document look newline t = document look newline t
 
 -- the byte of a file at a place
 abbrev pub at : List ℕ → ℕ → ℕ
@@ -73,7 +103,7 @@ place-tree s = read content (at s) (places 0 (length s))
 unfoldable pub page-list : Page → List ℕ → Result (List (Out ℕ))
 page-list k s = do
   t ← place-tree s
-  accepted (shown k (λ p. escape (at s p)) (λ p. newline (at s p)) t)
+  accepted (shown k (λ p. look-of k (at s p)) (λ p. newline (at s p)) t)
 
 -- each copied place is below n
 abbrev pub Below : (n : ℕ) → List (Out ℕ) → Type 0

@@ -7,12 +7,12 @@ use lib.ListN.{length, drop}
 use Rattle.rules.specs.Limits.{most-bytes, most-columns}
 use Rattle.rules.specs.Bytes.{if_then_else_, newline}
 use Rattle.rules.specs.Result.{Result, refused, accepted, _>>=_, _>>_, need}
-use Rattle.rules.specs.Walk.{content}
+use Rattle.rules.specs.Walk.{content, strict-content}
 use Rattle.rules.specs.Tree.{Frag, read}
 use Rattle.rules.specs.Encode.{encode}
 use Rattle.rules.specs.Layout.{layout}
 use Rattle.rules.specs.Plain.{plain, fill}
-use Rattle.rules.specs.Html.{escape, body, document}
+use Rattle.rules.specs.Html.{Escape, escape, strict-escape, body, document}
 
 -- a byte stands for itself
 abbrev pub itself : ℕ → ℕ
@@ -64,24 +64,26 @@ module _ (reading : List ℕ → Result (Frag ℕ)) where
     t ← reading s
     accepted (fill itself (plain newline t))
 
-  unfoldable pub body-text-by : List ℕ → Result (List ℕ)
-  body-text-by s = do
-    t ← reading s
-    accepted (fill itself (body escape newline t))
-
-  unfoldable pub document-text-by : List ℕ → Result (List ℕ)
-  document-text-by s = do
-    t ← reading s
-    accepted (fill itself (document escape newline t))
-
   unfoldable pub plain-outcome-by : (s page : List ℕ) → Result ℕ × List ℕ
   plain-outcome-by s page = left-page (plain-text-by s) page
 
-  unfoldable pub body-outcome-by : (s page : List ℕ) → Result ℕ × List ℕ
-  body-outcome-by s page = left-page (body-text-by s) page
+  -- HTML, over how a byte of a text is written too
+  module _ (look : ℕ → Escape) where
+    unfoldable pub body-text-by : List ℕ → Result (List ℕ)
+    body-text-by s = do
+      t ← reading s
+      accepted (fill itself (body look newline t))
 
-  unfoldable pub document-outcome-by : (s page : List ℕ) → Result ℕ × List ℕ
-  document-outcome-by s page = left-page (document-text-by s) page
+    unfoldable pub document-text-by : List ℕ → Result (List ℕ)
+    document-text-by s = do
+      t ← reading s
+      accepted (fill itself (document look newline t))
+
+    unfoldable pub body-outcome-by : (s page : List ℕ) → Result ℕ × List ℕ
+    body-outcome-by s page = left-page (body-text-by s) page
+
+    unfoldable pub document-outcome-by : (s page : List ℕ) → Result ℕ × List ℕ
+    document-outcome-by s page = left-page (document-text-by s) page
 
 -- ---- the entries: a file is read by document 01's content, and a style's last tag is today's
 
@@ -101,19 +103,33 @@ abbrev pub plain-text : List ℕ → Result (List ℕ)
 plain-text s = plain-text-by tree s
 
 abbrev pub body-text : List ℕ → Result (List ℕ)
-body-text s = body-text-by tree s
+body-text s = body-text-by tree escape s
 
 abbrev pub document-text : List ℕ → Result (List ℕ)
-document-text s = document-text-by tree s
+document-text s = document-text-by tree escape s
 
 abbrev pub plain-outcome : (s page : List ℕ) → Result ℕ × List ℕ
 plain-outcome s page = plain-outcome-by tree s page
 
 abbrev pub body-outcome : (s page : List ℕ) → Result ℕ × List ℕ
-body-outcome s page = body-outcome-by tree s page
+body-outcome s page = body-outcome-by tree escape s page
 
 abbrev pub document-outcome : (s page : List ℕ) → Result ℕ × List ℕ
-document-outcome s page = document-outcome-by tree s page
+document-outcome s page = document-outcome-by tree escape s page
+
+-- ---- strict mode: a NUL in a text is refused, and a CR is escaped
+
+unfoldable pub strict-tree : List ℕ → Result (Frag ℕ)
+strict-tree s = read strict-content itself s
+
+abbrev pub strict-check-answer : List ℕ → Result ℕ
+strict-check-answer s = check-answer-by strict-tree s
+
+abbrev pub strict-body-outcome : (s page : List ℕ) → Result ℕ × List ℕ
+strict-body-outcome s page = body-outcome-by strict-tree strict-escape s page
+
+abbrev pub strict-document-outcome : (s page : List ℕ) → Result ℕ × List ℕ
+strict-document-outcome s page = document-outcome-by strict-tree strict-escape s page
 
 -- ---- an answer as one number, for callers in C: 256 times its count or place, and the refusal's number, or 0 where it is accepted
 

@@ -76,10 +76,19 @@ close-tag s = join (ascii "</" ∷ tag-name s ∷ ascii ">" ∷ [])
 
 -- how a byte of a text is written
 pub data Escape : Type 0 where
-  ampersand less-than as-it-is : Escape
+  ampersand less-than carriage-return as-it-is : Escape
 
 unfoldable pub escape : ℕ → Escape
 escape b = if eqb b 38 then ampersand else if eqb b 60 then less-than else as-it-is
+
+-- in strict mode a browser must not take a CR for the end of a line
+unfoldable pub strict-escape : ℕ → Escape
+strict-escape b = if eqb b 13 then carriage-return else escape b
+
+-- by the mode
+abbrev pub escape-in : (strict : Bool) → ℕ → Escape
+escape-in false b = escape b
+escape-in true b = strict-escape b
 
 unfoldable pub root : List ℕ
 root = ascii "spirt-90c2056d-5b38-4644-824a-b4be1c82f14d"
@@ -99,6 +108,7 @@ copies xs = map (λ x. copied x) xs
 unfoldable pub escaped : {X : Type 0} → Escape → X → List (Out X)
 escaped ampersand x = makes (ascii "&amp;")
 escaped less-than x = makes (ascii "&lt;")
+escaped carriage-return x = makes (ascii "&#13;")
 escaped as-it-is x = copied x ∷ []
 
 -- a definition has an id too, before its href

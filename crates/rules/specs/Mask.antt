@@ -1,18 +1,14 @@
 -- Demand 3's words: bytes inside texts, files that are equal but for those, and the mask that keeps every length and every newline.
 use mathlib.Core.Path.{_≡_}
 use mathlib.Core.List.{List, [], _∷_, _++_, map}
-use mathlib.Core.Bool.{Bool, true, false, _||_}
+use mathlib.Core.Bool.{Bool, true, false}
 use Prim.Native.Nat.{ℕ, _<_}
 use lib.Dec.{eqb}
 use lib.ListN.{length, getD, replicate}
 use Rattle.rules.specs.Bytes.{if_then_else_, has}
 use Rattle.rules.specs.Result.{Result, refused, accepted}
-use Rattle.rules.specs.Walk.{Fields, end, bytes, inside, content, check}
+use Rattle.rules.specs.Walk.{Fields, end, bytes, inside, is-text, content, check}
 use Rattle.rules.specs.Answers.{itself}
-
--- texts are the values of 17 and 7
-unfoldable pub is-text : ℕ → Bool
-is-text t = eqb t 17 || eqb t 7
 
 -- for each byte of some fields in turn, whether it stands in a text; the three bytes before a value do not
 unfoldable pub in-texts : {X : Type 0} → Fields X → List Bool
@@ -39,12 +35,19 @@ pub record Alike (kept s s′ : List ℕ) : Type 0 where
   pub same-length : length s ≡ length s′
   pub at : (k : ℕ) → k < length s → Byte-alike kept (getD (text-places s) k false) (getD s k 0) (getD s′ k 0)
 
--- kept are newlines, and for HTML & and < too
+-- no text of a file has the byte b
+pub record Without (b : ℕ) (s : List ℕ) : Type 0 where
+  pub nowhere : (k : ℕ) → k < length s → getD (text-places s) k false ≡ true → getD s k 0 ≡ b → ⊥
+
+-- kept are newlines, for HTML & and < too, and CR for strict HTML
 abbrev pub newlines : List ℕ
 newlines = 10 ∷ []
 
 abbrev pub newlines-and-escapes : List ℕ
 newlines-and-escapes = 10 ∷ 38 ∷ 60 ∷ []
+
+abbrev pub newlines-and-strict-escapes : List ℕ
+newlines-and-strict-escapes = 10 ∷ 38 ∷ 60 ∷ 13 ∷ []
 
 -- ---- the mask: each text byte but the kept ones is replaced by `x`
 

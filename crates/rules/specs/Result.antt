@@ -3,7 +3,7 @@ use mathlib.Core.List.{List, [], _∷_}
 use mathlib.Core.Bool.{Bool, true, false}
 use Prim.Native.Nat.{ℕ}
 use Rattle.rules.specs.declared.Refusal.{Refusal}
-use Rattle.rules.specs.declared.Refusal.the-variants.{TooLong, TooWide, Cut, WrongTag, WrongLength, TooDeep, NotUtf8, BadStyle, QuoteInAnchor, PageTooShort}
+use Rattle.rules.specs.declared.Refusal.the-variants.{TooLong, TooWide, Cut, WrongTag, WrongLength, TooDeep, NotUtf8, BadStyle, QuoteInAnchor, PageTooShort, NulInText}
 use Rattle.rules.specs.declared.Answer.{Answer}
 use Rattle.rules.specs.declared.Answer.the-variants.{Done, Refused}
 
@@ -51,6 +51,7 @@ refusal (NotUtf8 p) = refused 7 p
 refusal (BadStyle p) = refused 8 p
 refusal (QuoteInAnchor p) = refused 9 p
 refusal (PageTooShort needed) = refused 10 needed
+refusal (NulInText p) = refused 14 p
 
 -- what an answer of the code says
 unfoldable pub said : Answer → Result ℕ

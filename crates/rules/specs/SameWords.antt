@@ -7,12 +7,11 @@ use lib.Dec.{eqb}
 use Rattle.rules.specs.Limits.{plain-per-byte, html-per-byte, html-frame}
 use Rattle.rules.specs.Bytes.{if_then_else_, newline}
 use Rattle.rules.specs.Result.{Result, refused, accepted, _>>=_}
-use Rattle.rules.specs.Walk.{Fields, end, bytes, inside, content, check}
+use Rattle.rules.specs.Walk.{Fields, end, bytes, inside, content, check, is-text}
 use Rattle.rules.specs.Lines.{Mark, Item, char, marked, made, copied, items}
 use Rattle.rules.specs.Plain.{chars, fill}
 use Rattle.rules.specs.Answers.{itself, tree}
-use Rattle.rules.specs.Mask.{is-text}
-use Rattle.rules.specs.Alike.{Page, plain-page, html-body, html-document}
+use Rattle.rules.specs.Alike.{Page, plain-page, html-body, html-document, strict-body, strict-document, strict-body, strict-document}
 
 -- ---- of bytes and of items
 
@@ -102,6 +101,8 @@ abbrev pub most-of : Page → (n : ℕ) → ℕ
 most-of plain-page n = plain-per-byte * n
 most-of html-body n = html-per-byte * n + html-frame
 most-of html-document n = html-per-byte * n + html-frame
+most-of strict-body n = html-per-byte * n + html-frame
+most-of strict-document n = html-per-byte * n + html-frame
 
 -- an answer of a page's entry, where `lent` bytes were lent: a page, or 10, of at most `most` bytes. So 10 never comes where `most` bytes are lent
 abbrev pub Short : (most lent : ℕ) → Result ℕ → Type 0

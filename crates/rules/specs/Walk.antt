@@ -1,8 +1,8 @@
 -- The file check: house fields, what may stand where, and the walk from the front with refusals 1 and 3 to 9.
 -- X is what stands for a byte of the file: the byte itself, or its place in the file.
-use mathlib.Core.List.{List, [], _∷_, map}
+use mathlib.Core.List.{List, [], _∷_, _++_, map}
 use mathlib.Core.Option.{Option, none, some}
-use mathlib.Core.Bool.{Bool, true, _&&_, _||_, not}
+use mathlib.Core.Bool.{Bool, true, false, _&&_, _||_, not}
 use Prim.Native.Nat.{ℕ, zero, suc, _+_, _-_}
 use lib.Dec.{leb, ltb, eqb}
 use lib.ListN.{length, take, drop}
@@ -82,6 +82,19 @@ content t v =
     if eqb t 33 then right-opacity (number v) or-refuse 8 ∷ [] else
     if eqb t 35 then right-size (number v) or-refuse 8 ∷ [] else
     []
+
+-- texts are the values of 17 and 7
+unfoldable pub is-text : ℕ → Bool
+is-text t = eqb t 17 || eqb t 7
+
+-- strict mode's: document 01's, and then no NUL in a text
+unfoldable pub strict-content : Content
+strict-content t v = if is-text t then content t v ++ (not (has 0 v) or-refuse 14 ∷ []) else content t v
+
+-- by the mode
+abbrev pub content-in : (strict : Bool) → Content
+content-in false t v = content t v
+content-in true t v = strict-content t v
 
 -- the checks of the tags that a value of fields has together: a text; a name; colour where there is opacity, and not both scripts
 unfoldable pub complete : Holder → List ℕ → List Check
