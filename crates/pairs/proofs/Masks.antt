@@ -1,6 +1,6 @@
--- The mask of an accepted file: it is accepted, has the same fields at the same places, and is its own mask; and where no text has & or < it is the mask
--- that keeps those.
-use Rattle.rules.proofs.Basics.{_≡_, refl, sym, ap, ap₂, _∙_, List, [], _∷_, map, Option, none, some, Option·map, Bool, true, false, _&&_, _||_, inl, ℕ, suc, _+_, _<_, zero-add, arith, eqb, length, length-map, length-append, getD, ne-eqb}
+-- The mask of an accepted file: it is accepted, has the same fields at the same places, and is its own mask; and where no text has some bytes
+-- it is the mask that keeps those.
+use Rattle.rules.proofs.Basics.{_≡_, refl, sym, ap, ap₂, _∙_, List, [], _∷_, map, Option, none, some, Option·map, Bool, true, false, _&&_, _||_, inl, ℕ, suc, _+_, _<_, zero-add, arith, eqb, length, length-map, length-append, getD, ne-eqb, eqb-true}
 use Rattle.rules.specs.Bytes.{if_then_else_, has}
 use Rattle.rules.specs.Result.{accepted, _>>=_}
 use Rattle.rules.specs.Walk.{Fields, end, bytes, inside, check, content, is-text}
@@ -8,7 +8,7 @@ use Rattle.rules.specs.Tree.{Frag, map-fields}
 use Rattle.rules.specs.Encode.{field, encode-fields, frag-fields}
 use Rattle.rules.specs.Good.{Bytes}
 use Rattle.rules.specs.Answers.{itself, tree, check-answer, check-answer-by}
-use Rattle.rules.specs.Mask.{in-texts, text-places, Byte-alike, newlines, newlines-and-escapes, mask-byte, mask-bytes, mask}
+use Rattle.rules.specs.Mask.{in-texts, text-places, Byte-alike, Without, newlines, mask-byte, mask-bytes, mask}
 use Rattle.rules.specs.Alike.{AlikeFiles, plain-page, at, places}
 use Rattle.rules.proofs.Chains.{bind-inv}
 use Rattle.rules.proofs.Lists.{if-map}
@@ -16,7 +16,7 @@ use Rattle.rules.proofs.ReadMap.{map-result}
 use Rattle.rules.proofs.Reread.{check-same}
 use Rattle.rules.proofs.Places.{check-places, placed, like-places}
 use Rattle.rules.proofs.Files.{tree-read}
-use Rattle.rules.proofs.Masked.{file-and-mask}
+use Rattle.rules.proofs.Masked.{masked-at, file-and-mask}
 use Rattle.pairs.specs.Pair.{or-else, text-in}
 use Rattle.pairs.specs.Flat.{flags, length-at-place}
 use Rattle.pairs.proofs.OfFiles.{length-in, flags-of-file, length-of-file}
@@ -165,30 +165,50 @@ pub own-mask : (s : List ℕ) → Bytes s → check-answer s ≡ accepted 0 → 
 unfolding mask
 own-mask s bs e = ap (λ (cs : List Bool). mask-bytes newlines cs (mask newlines s)) (mask-texts s bs e) ∙ all-twice (text-places s) s
 
--- ---- where no text has & or <
+-- ---- where no text has the bytes that a page's mask keeps beside newlines
 
--- neither stands at a place in a text
-pub record NoEscapes (s : List ℕ) : Type 0 where
-  pub ampersand : (k : ℕ) → k < length s → getD (text-places s) k false ≡ true → getD s k 0 ≡ 38 → ⊥
-  pub less-than : (k : ℕ) → k < length s → getD (text-places s) k false ≡ true → getD s k 0 ≡ 60 → ⊥
+-- no text has any of these bytes
+abbrev pub Lacking : (bs s : List ℕ) → Type 0
+Lacking [] s = Unit {0}
+Lacking (b ∷ bs) s = Without b s × Lacking bs s
 
--- a byte that is neither is masked alike by both
-alike-byte : (c : Bool) (b : ℕ) → (c ≡ true → b ≡ 38 → ⊥) → (c ≡ true → b ≡ 60 → ⊥) → mask-byte newlines c b ≡ mask-byte newlines-and-escapes c b
+none-of-them : (bs s : List ℕ) → Lacking bs s → (k : ℕ) → k < length s → getD (text-places s) k false ≡ true → has (getD s k 0) bs ≡ false
+unfolding has
+none-of-them [] s L k l m = refl
+none-of-them (b ∷ bs) s L k l m = rw (ne-eqb (getD s k 0) b (L .0 .nowhere k l m)) (none-of-them bs s (L .1) k l m)
+
+-- a byte that is none of them is masked alike by both
+alike-byte : (bs : List ℕ) (c : Bool) (b : ℕ) → (c ≡ true → has b bs ≡ false) → mask-byte newlines c b ≡ mask-byte (10 ∷ bs) c b
 unfolding mask-byte has
-alike-byte false b h g = refl
-alike-byte true b h g = rw (ne-eqb b 38 (h refl), ne-eqb b 60 (g refl))
+alike-byte bs false b h = refl
+alike-byte bs true b h = rw (h refl)
 
-alike-bytes : (cs : List Bool) (s : List ℕ)
-    → ((k : ℕ) → k < length s → getD cs k false ≡ true → getD s k 0 ≡ 38 → ⊥) → ((k : ℕ) → k < length s → getD cs k false ≡ true → getD s k 0 ≡ 60 → ⊥)
-    → mask-bytes newlines cs s ≡ mask-bytes newlines-and-escapes cs s
+alike-bytes : (bs : List ℕ) (cs : List Bool) (s : List ℕ) → ((k : ℕ) → k < length s → getD cs k false ≡ true → has (getD s k 0) bs ≡ false)
+    → mask-bytes newlines cs s ≡ mask-bytes (10 ∷ bs) cs s
 unfolding mask-bytes
-alike-bytes [] s h g = refl
-alike-bytes (c ∷ cs) [] h g = refl
-alike-bytes (c ∷ cs) (b ∷ s) h g =
-    ap₂ _∷_ (alike-byte c b (h 0 (omega arith)) (g 0 (omega arith)))
-    (alike-bytes cs s (λ k l. h (suc k) (omega (arith, l))) (λ k l. g (suc k) (omega (arith, l))))
+alike-bytes bs [] s h = refl
+alike-bytes bs (c ∷ cs) [] h = refl
+alike-bytes bs (c ∷ cs) (b ∷ s) h = ap₂ _∷_ (alike-byte bs c b (h 0 (omega arith))) (alike-bytes bs cs s (λ k l. h (suc k) (omega (arith, l))))
 
--- WHERE NO TEXT HAS & OR < THE MASK IS THE ONE THAT KEEPS THEM
-pub escapes : (s : List ℕ) → NoEscapes s → mask newlines s ≡ mask newlines-and-escapes s
+-- WHERE NO TEXT HAS ANY OF THEM THE MASK IS THE ONE THAT KEEPS THEM
+pub keeping : (bs s : List ℕ) → Lacking bs s → mask newlines s ≡ mask (10 ∷ bs) s
 unfolding mask
-escapes s N = alike-bytes (text-places s) s (N .ampersand) (N .less-than)
+keeping bs s L = alike-bytes bs (text-places s) s (none-of-them bs s L)
+
+-- NO TEXT OF A MASK HAS A NUL
+pub mask-clear : (s : List ℕ) → Bytes s → check-answer s ≡ accepted 0 → Without 0 (mask newlines s)
+unfolding mask mask-byte has
+mask-clear s bs e =
+    record {
+      nowhere = λ k l m z.
+          let n : length (mask newlines s) ≡ length s = mask-accepted s bs e .same-length in
+          let flagged : getD (text-places s) k false ≡ true = rw (mask-texts s bs e) at m in
+          not-nul (getD s k 0) (sym (masked-at newlines (omega arith) refl (text-places s) s k (omega (arith, n, l))) ∙ z) flagged;
+    }
+  where
+    not-nul : (b : ℕ) {c : Bool} → mask-byte newlines c b ≡ 0 → c ≡ true → ⊥
+    not-nul b {c} z e = go (eqb b 10) refl (rw e at z)
+      where
+        go : (x : Bool) → eqb b 10 ≡ x → (if x || false then b else 120) ≡ 0 → ⊥
+        go true q z = omega (arith, eqb-true b 10 q, z)
+        go false q z = omega (arith, z)

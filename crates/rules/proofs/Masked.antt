@@ -50,7 +50,7 @@ module _ (kept : List ℕ) (ascii : Ascii kept) (plain-x : has 120 kept ≡ fals
       go true q = refl
       go false q = none-of b kept q ∙ sym (none-of 120 kept plain-x)
 
-  masked-at : (ms : List Bool) (s : List ℕ) (k : ℕ) → k < length s → at (mask-bytes kept ms s) k ≡ mask-byte kept (getD ms k false) (at s k)
+  pub masked-at : (ms : List Bool) (s : List ℕ) (k : ℕ) → k < length s → at (mask-bytes kept ms s) k ≡ mask-byte kept (getD ms k false) (at s k)
   unfolding mask-bytes mask-byte
   masked-at [] s k l = refl
   masked-at (m ∷ ms) [] k l = absurd (omega arith)

@@ -125,6 +125,9 @@ strict-tree s = read strict-content itself s
 abbrev pub strict-check-answer : List ℕ → Result ℕ
 strict-check-answer s = check-answer-by strict-tree s
 
+abbrev pub strict-body-text : List ℕ → Result (List ℕ)
+strict-body-text s = body-text-by strict-tree strict-escape s
+
 abbrev pub strict-body-outcome : (s page : List ℕ) → Result ℕ × List ℕ
 strict-body-outcome s page = body-outcome-by strict-tree strict-escape s page
 

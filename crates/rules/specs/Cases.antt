@@ -10,7 +10,7 @@ use Rattle.rules.specs.Bytes.{if_then_else_, ascii}
 use Rattle.rules.specs.Result.{Result, refused, accepted, _>>=_}
 use Rattle.rules.specs.Encode.{encode, field}
 use Rattle.rules.specs.Sizes.{em-text, opacity-text}
-use Rattle.rules.specs.Answers.{laid-out, plain-text, body-text, document-text, check-answer}
+use Rattle.rules.specs.Answers.{laid-out, plain-text, body-text, document-text, check-answer, strict-check-answer, strict-body-text}
 
 -- ---- files in hexadecimal digits, two to a byte; other characters are passed over
 
@@ -47,6 +47,8 @@ pub data Question : Type 0 where
   plainly : Question
   in-html : Question
   in-a-document : Question
+  strict-verdict : Question
+  in-strict-html : Question
   em-of : (size : ℤ) → Question
   opacity-of : (bits : ℕ) → Question
 
@@ -67,6 +69,10 @@ answer (printed w) s = print-at w s
 answer plainly s = plain-text s
 answer in-html s = body-text s
 answer in-a-document s = document-text s
+answer strict-verdict s = do
+  n ← strict-check-answer s
+  accepted []
+answer in-strict-html s = strict-body-text s
 answer (em-of size) s = accepted (em-text size)
 answer (opacity-of bits) s = accepted (opacity-text bits)
 
@@ -131,6 +137,11 @@ examples w =
     ∷ case in-html "010011 10000A 2300010A 260000 270000 11000178" (writes "<pre class=\"spirt-90c2056d-5b38-4644-824a-b4be1c82f14d\">\n<span style=\"font-size:2em;vertical-align:middle;text-decoration:underline;\" class=\"unchanged\">x</span></pre>")
     ∷ case (laid 2) "040012 08000F 01000C 100003 270000 110003616263" (leaves "030012 08000F 01000C 100003 270000 110003616263")
     ∷ case (laid 3) "040012 08000F 01000C 100003 270000 110003616263" (leaves "040012 08000F 01000C 100003 270000 110003616263")
+    -- strict HTML: a CR in a text, and a 7 that counts; an anchor's name keeps its CR and its NUL
+    ∷ case in-strict-html "010007 110004 610D263C" (writes "<pre class=\"spirt-90c2056d-5b38-4644-824a-b4be1c82f14d\">\na&#13;&amp;&lt;</pre>")
+    ∷ case in-strict-html "030008 080005 070002 0D0D" (writes "<pre class=\"spirt-90c2056d-5b38-4644-824a-b4be1c82f14d\">\n  &#13;&#13;</pre>")
+    ∷ case strict-verdict "020005 120002 0D00" (accepted [])
+    ∷ case verdict "010004 110001 00" (accepted [])
     -- the others
     ∷ case (em-of (negsuc 1)) "" (writes "0.8")
     ∷ case (em-of (negsuc 8)) "" (writes "0.09999999999999998")

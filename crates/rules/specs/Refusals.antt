@@ -5,7 +5,7 @@ use Prim.Native.String.{String}
 use lib.ListN.{replicate}
 use Rattle.rules.specs.Result.{Result}
 use Rattle.rules.specs.Encode.{field}
-use Rattle.rules.specs.Answers.{check-answer, layout-outcome, plain-outcome, body-outcome, document-outcome}
+use Rattle.rules.specs.Answers.{check-answer, layout-outcome, plain-outcome, body-outcome, document-outcome, strict-check-answer, strict-body-outcome, strict-document-outcome}
 use Rattle.rules.specs.Cases.{unhex, nested}
 
 pub data Entry : Type 0 where
@@ -14,6 +14,9 @@ pub data Entry : Type 0 where
   plain-page-of : (room : ℕ) → Entry
   body-of : (room : ℕ) → Entry
   document-of : (room : ℕ) → Entry
+  strict-check : Entry
+  strict-body-of : (room : ℕ) → Entry
+  strict-document-of : (room : ℕ) → Entry
 
 unfoldable pub answers : Entry → List ℕ → Result ℕ
 answers file-check s = check-answer s
@@ -21,6 +24,9 @@ answers (layout-at w) s = layout-outcome w s .0
 answers (plain-page-of room) s = plain-outcome s (replicate room 0) .0
 answers (body-of room) s = body-outcome s (replicate room 0) .0
 answers (document-of room) s = document-outcome s (replicate room 0) .0
+answers strict-check s = strict-check-answer s
+answers (strict-body-of room) s = strict-body-outcome s (replicate room 0) .0
+answers (strict-document-of room) s = strict-document-outcome s (replicate room 0) .0
 
 pub record Refused-case : Type 0 where
   pub entry : Entry
@@ -90,6 +96,19 @@ refusals =
     ∷ no (plain-page-of 0) "63" 3 0
     ∷ no (body-of 62) "" 10 63
     ∷ no (document-of 0) "050001 00" 5 0
+    -- 14, in strict mode: a NUL in a 17, in a 7 and in an anchor's text; before 10, and behind 1 and what stands before it
+    ∷ no strict-check "010004 110001 00" 14 3
+    ∷ no strict-check "070003 610062" 14 0
+    ∷ no strict-check "02000B 120001 00 010004 110001 00" 14 10
+    ∷ no (strict-body-of 0) "010004 110001 00" 14 3
+    ∷ no (strict-document-of 0) "010004 110001 00" 14 3
+    ∷ no (strict-body-of 67) "010004 110001 0D" 10 68
+    ∷ no-bytes strict-check (replicate 60_001 0) 1 0
+    ∷ no strict-check "050001 00 070001 00" 5 0
+    -- a NUL behind bytes that are not UTF-8, in the same text and in one before it; and before a later fault
+    ∷ no strict-check "010005 110002 00FF" 7 3
+    ∷ no strict-check "070001 FF 070001 00" 7 0
+    ∷ no strict-check "070001 00 070001 FF" 14 0
     -- two faults at one field: three bytes there before tag, tag before length, length fits before fixed length, these before depth, depth before content
     ∷ no file-check "09 FF" 3 0
     ∷ no file-check "09 FFFF" 4 0
