@@ -28,6 +28,7 @@ pub mod Places
 pub mod Masked
 pub mod Filled
 pub mod LeftLaid
+pub mod StrictLaid
 pub mod Demand3
 pub mod Refused
 pub mod Nearest
