@@ -2,9 +2,14 @@
 -- those of rules/specs/Alike; `said` is what an answer says, `decoded` what the number that a C name answers says.
 use Rattle.rules.proofs.Basics.{_≡_, sym, _∙_, ap, List, ℕ, length}
 use Rattle.rules.specs.declared.Answer.{Answer}
-use Rattle.rules.specs.Result.{Result, said}
-use Rattle.rules.specs.Answers.{check-answer, layout-outcome, coded, coded-outcome, decoded}
-use Rattle.rules.specs.Alike.{AlikeFiles, SameLayout, Page, outcome-of, kept, OneList}
+use Rattle.rules.specs.Result.{Result, accepted, said}
+use Rattle.rules.specs.Good.{Bytes}
+use Rattle.rules.specs.Answers.{check-answer, check-answer-by, strict-check-answer, layout-outcome, coded, coded-outcome, decoded}
+use Rattle.rules.specs.Mask.{Without}
+use Rattle.rules.specs.Alike.{AlikeFiles, SameLayout, Page, outcome-of, kept, Clear, OneList}
+use Rattle.rules.proofs.Chains.{bind-inv}
+use Rattle.rules.proofs.Strict.{strict-accepted}
+use Rattle.rules.proofs.StrictLaid.{left-clear}
 use Rattle.rules.proofs.Unique.{said-unique, coded-outcome-back}
 use Rattle.rules.proofs.Demand3.{same-layout, one-list}
 use Rattle.hazomeny.proofs.Fits.{Told, told-layout, told-page}
@@ -34,6 +39,25 @@ module _ {keep s s′ : List ℕ} (F : AlikeFiles keep s s′) where
   pub check-alike-in-c : (n n′ : ℕ) → n ≡ coded (check-answer s) → n′ ≡ coded (check-answer s′) → n ≡ n′
   check-alike-in-c n n′ e e′ = e ∙ ap coded (F .passes ∙ sym (F .passes′)) ∙ sym e′
 
+  -- AND SO DOES STRICT MODE'S, WHERE NO TEXT OF EITHER HAS A NUL
+  module _ (C : Without 0 s) (C′ : Without 0 s′) where
+    passes-strictly : strict-check-answer s ≡ accepted 0
+    passes-strictly = strict-accepted s (F .bytes) .1 (F .passes, C)
+
+    passes-strictly′ : strict-check-answer s′ ≡ accepted 0
+    passes-strictly′ = strict-accepted s′ (F .bytes′) .1 (F .passes′, C′)
+
+    pub strict-check-alike : (a a′ : Answer) → said a ≡ strict-check-answer s → said a′ ≡ strict-check-answer s′ → (a ≡ a′) × (said a ≡ accepted 0)
+    strict-check-alike a a′ e e′ = (said-unique a a′ (e ∙ passes-strictly ∙ sym passes-strictly′ ∙ sym e′), e ∙ passes-strictly)
+
+    pub strict-check-alike-in-c : (n n′ : ℕ) → n ≡ coded (strict-check-answer s) → n′ ≡ coded (strict-check-answer s′) → (n ≡ n′) × (n ≡ 0)
+    unfolding coded
+    strict-check-alike-in-c n n′ e e′ = (e ∙ ap coded (passes-strictly ∙ sym passes-strictly′) ∙ sym e′, e ∙ ap coded passes-strictly)
+
+  -- strict acceptance of one gives the other's, where that has no NUL in a text
+  pub strict-acceptance : Without 0 s′ → strict-check-answer s ≡ accepted 0 → strict-check-answer s′ ≡ accepted 0
+  strict-acceptance C′ e = strict-accepted s′ (F .bytes′) .1 (F .passes′, C′)
+
 -- LAYOUT ANSWERS BOTH ALIKE, CHANGES THE SAME PLACES AND LEAVES SUCH FILES, from which the page k may follow
 module _ (k : Page) (w : ℕ) (s s′ : List ℕ) (F : AlikeFiles (kept k) s s′) where
   pub layout-alike : (a a′ : Answer) (t t′ : List ℕ) → (said a, t) ≡ layout-outcome w s → (said a′, t′) ≡ layout-outcome w s′
@@ -46,14 +70,21 @@ module _ (k : Page) (w : ℕ) (s s′ : List ℕ) (F : AlikeFiles (kept k) s s�
       let L = same-layout k w s s′ F in
       of-coded (SameLayout (kept k) s s′) _ _ L (L .same-answer) (told-layout w s) (told-layout w s′)
 
--- EACH PAGE'S ENTRY ANSWERS BOTH ALIKE, AND ONE LIST GIVES BOTH PAGES
-module _ (k : Page) (s s′ q q′ : List ℕ) (F : AlikeFiles (kept k) s s′) (m : length q ≡ length q′) where
+-- what layout leaves of a file that a page can be made of is one too
+pub layout-stays-clear : (k : Page) (w : ℕ) (s t : List ℕ) (a : Answer) → Bytes s → check-answer s ≡ accepted 0 → Clear k s → (said a, t) ≡ layout-outcome w s → Clear k t
+unfolding check-answer-by
+layout-stays-clear k w s t a b p C e =
+    let (u, eu, _) = bind-inv _ _ _ p in
+    rw (ap (λ (o : Outcome). o .1) e) (left-clear k w s u b eu C)
+
+-- EACH PAGE'S ENTRY ANSWERS BOTH ALIKE, AND ONE LIST GIVES BOTH PAGES; a strict page's, where no text of either has a NUL
+module _ (k : Page) (s s′ q q′ : List ℕ) (F : AlikeFiles (kept k) s s′) (C : Clear k s) (C′ : Clear k s′) (m : length q ≡ length q′) where
   pub page-alike : (a a′ : Answer) (r r′ : List ℕ) → (said a, r) ≡ outcome-of k s q → (said a′, r′) ≡ outcome-of k s′ q′
       → (a ≡ a′) × OneList k s s′ q q′ (said a, r) (said a′, r′)
-  page-alike = let L = one-list k s s′ q q′ F m in of-said (OneList k s s′ q q′) _ _ L (L .same-answer)
+  page-alike = let L = one-list k s s′ q q′ F C C′ m in of-said (OneList k s s′ q q′) _ _ L (L .same-answer)
 
   pub page-alike-in-c : (n n′ : ℕ) (r r′ : List ℕ) → (n, r) ≡ coded-outcome (outcome-of k s q) → (n′, r′) ≡ coded-outcome (outcome-of k s′ q′)
       → (n ≡ n′) × OneList k s s′ q q′ (decoded n, r) (decoded n′, r′)
   page-alike-in-c =
-      let L = one-list k s s′ q q′ F m in
+      let L = one-list k s s′ q q′ F C C′ m in
       of-coded (OneList k s s′ q q′) _ _ L (L .same-answer) (told-page k s q (F .bytes)) (told-page k s′ q′ (F .bytes′))

@@ -10,9 +10,8 @@ use Rattle.rules.specs.Encode.{encode}
 use Rattle.rules.specs.Layout.{layout}
 use Rattle.rules.specs.Good.{Bytes}
 use Rattle.rules.specs.Plain.{fill}
-use Rattle.rules.specs.Html.{escape}
 use Rattle.rules.specs.Answers.{itself, tree, check-answer, check-answer-by, laid-out-by, left-laid, layout-outcome, layout-outcome-by, written, left-page, coded, coded-outcome}
-use Rattle.rules.specs.Alike.{Page, outcome-of, shown}
+use Rattle.rules.specs.Alike.{Page, plain-page, html-body, html-document, strict-body, strict-document, outcome-of, tree-of, look-of, shown}
 use Rattle.rules.proofs.Files.{Read, tree-read}
 use Rattle.rules.proofs.Refused.{Refusable, too-long, at-fault, refused-place}
 use Rattle.rules.proofs.Unique.{Numbered}
@@ -65,15 +64,23 @@ unfolding written coded
 told-written true text page h = omega arith
 told-written false text page h = omega arith
 
+-- whichever page it is, its file is refused in the walk, or read as document 01 reads it
+told-page-refused : (k : Page) (s : List ℕ) (n p : ℕ) → tree-of k s ≡ refused n p → Told (refused n p)
+told-page-refused plain-page s n p e = told-refused s n p e
+told-page-refused html-body s n p e = told-refused s n p e
+told-page-refused html-document s n p e = told-refused s n p e
+told-page-refused strict-body s n p e = told-strict-refused s n p e
+told-page-refused strict-document s n p e = told-strict-refused s n p e
+
 pub told-page : (k : Page) (s page : List ℕ) → Bytes s → Told (outcome-of k s page .0)
 unfolding left-page _>>=_
-told-page k s page b = rw (by-kind k s page) (go (tree s) refl)
+told-page k s page b = rw (by-kind k s page) (go (tree-of k s) refl)
   where
-    go : (x : Result (Frag ℕ)) → tree s ≡ x → Told (left-page (x >>= (λ t. accepted (fill itself (shown k escape newline t)))) page .0)
-    go (refused n p) f = told-refused s n p f
+    go : (x : Result (Frag ℕ)) → tree-of k s ≡ x → Told (left-page (x >>= (λ t. accepted (fill itself (shown k (look-of k) newline t)))) page .0)
+    go (refused n p) f = told-page-refused k s n p f
     go (accepted t) f =
-        let R : Read s t = tree-read s t b f in
-        let text = fill itself (shown k escape newline t) in
+        let R : Read s t = tree-read s t b (loose-tree k s t b f) in
+        let text = fill itself (shown k (look-of k) newline t) in
         told-written (leb (length text) (length page)) text page (page-short k t (R .good) (subst Bytes (sym (R .encodes)) b))
 
 -- ---- the mask, and the pair

@@ -1,16 +1,16 @@
 -- What `mask_file` leaves, put through layout and each page's entry: the file and its mask are two files as in demand 3, of the entries' contracts.
-use Rattle.rules.proofs.Basics.{_≡_, refl, sym, ap, _∙_, List, _++_, Bool, true, false, ℕ, leb, length, take, drop, take-at}
+use Rattle.rules.proofs.Basics.{_≡_, refl, sym, ap, _∙_, List, [], _∷_, _++_, Bool, true, false, ℕ, leb, length, take, drop, take-at}
 use Rattle.rules.specs.declared.Answer.{Answer}
 use Rattle.rules.specs.Result.{Result, refused, accepted, said, _>>=_}
 use Rattle.rules.specs.Tree.{Frag}
 use Rattle.rules.specs.Good.{Bytes}
 use Rattle.rules.specs.Answers.{tree, check-answer, layout-outcome, left-page, written}
-use Rattle.rules.specs.Mask.{newlines, mask}
-use Rattle.rules.specs.Alike.{AlikeFiles, SameLayout, Page, plain-page, html-body, html-document, outcome-of, kept, OneList}
+use Rattle.rules.specs.Mask.{Without, newlines, mask}
+use Rattle.rules.specs.Alike.{AlikeFiles, SameLayout, Page, plain-page, html-body, html-document, strict-body, strict-document, outcome-of, kept, Clear, OneList}
 use Rattle.rules.proofs.Chains.{no-path}
 use Rattle.rules.proofs.Masked.{file-and-mask}
 use Rattle.pairs.specs.Masking.{mask-text, mask-outcome}
-use Rattle.pairs.proofs.Masks.{NoEscapes, escapes, tree-passes, mask-accepted}
+use Rattle.pairs.proofs.Masks.{Lacking, keeping, mask-clear, tree-passes, mask-accepted}
 use Rattle.hazomeny.proofs.Demand3.{layout-alike, page-alike}
 
 -- the bytes in front are the mask of an accepted file
@@ -39,11 +39,13 @@ made s page q n b e = go (tree s) refl e
     go (refused k p) f e = let z : accepted n ≡ refused k p = ap (λ (x : Result ℕ × List ℕ). x .0) e in no-path (cc)
     go (accepted t) f e = fit t f (leb (length M) (length page)) e
 
--- for HTML no text may have & or <
+-- for HTML no text may have & or <, and for strict HTML neither CR nor NUL
 abbrev pub Fit : Page → List ℕ → Type 0
 Fit plain-page s = Unit {0}
-Fit html-body s = NoEscapes s
-Fit html-document s = NoEscapes s
+Fit html-body s = Lacking (38 ∷ 60 ∷ []) s
+Fit html-document s = Lacking (38 ∷ 60 ∷ []) s
+Fit strict-body s = Lacking (38 ∷ 60 ∷ 13 ∷ []) s × Without 0 s
+Fit strict-document s = Lacking (38 ∷ 60 ∷ 13 ∷ []) s × Without 0 s
 
 -- A FILE AND WHAT `mask_file` LEAVES OF IT ARE TWO FILES AS IN DEMAND 3
 pub mask-alike : (k : Page) (s page q : List ℕ) (n : ℕ) → Bytes s → Fit k s → (accepted n, q) ≡ mask-outcome s page → AlikeFiles (kept k) s (take n q)
@@ -51,8 +53,25 @@ mask-alike k s page q n b h e = let W : Made s q n = made s page q n b e in rw (
   where
     go : (k : Page) → Fit k s → check-answer s ≡ accepted 0 → AlikeFiles (kept k) s (mask newlines s)
     go plain-page h p = file-and-mask plain-page s b p
-    go html-body h p = rw (escapes s h) (file-and-mask html-body s b p)
-    go html-document h p = rw (escapes s h) (file-and-mask html-document s b p)
+    go html-body h p = rw (keeping _ s h) (file-and-mask html-body s b p)
+    go html-document h p = rw (keeping _ s h) (file-and-mask html-document s b p)
+    go strict-body h p = rw (keeping _ s (h .0)) (file-and-mask strict-body s b p)
+    go strict-document h p = rw (keeping _ s (h .0)) (file-and-mask strict-document s b p)
+
+-- and neither has a NUL in a text, where strict pages are asked for
+fit-clear : (k : Page) (s : List ℕ) → Fit k s → Clear k s
+fit-clear plain-page s h = tt
+fit-clear html-body s h = tt
+fit-clear html-document s h = tt
+fit-clear strict-body s h = h .1
+fit-clear strict-document s h = h .1
+
+mask-is-clear : (k : Page) (s : List ℕ) → Bytes s → check-answer s ≡ accepted 0 → Clear k (mask newlines s)
+mask-is-clear plain-page s b p = tt
+mask-is-clear html-body s b p = tt
+mask-is-clear html-document s b p = tt
+mask-is-clear strict-body s b p = mask-clear s b p
+mask-is-clear strict-document s b p = mask-clear s b p
 
 -- so that layout changes the same tags of both, and one list gives both pages
 module _ (k : Page) (s page q : List ℕ) (n : ℕ) (b : Bytes s) (h : Fit k s) (e : (accepted n, q) ≡ mask-outcome s page) where
@@ -62,4 +81,6 @@ module _ (k : Page) (s page q : List ℕ) (n : ℕ) (b : Bytes s) (h : Fit k s) 
 
   pub mask-page-alike : (p p′ : List ℕ) → length p ≡ length p′ → (a a′ : Answer) (r r′ : List ℕ) → (said a, r) ≡ outcome-of k s p → (said a′, r′) ≡ outcome-of k (take n q) p′
       → (a ≡ a′) × OneList k s (take n q) p p′ (said a, r) (said a′, r′)
-  mask-page-alike p p′ l = page-alike k s (take n q) p p′ (mask-alike k s page q n b h e) l
+  mask-page-alike p p′ l =
+      let W : Made s q n = made s page q n b e in
+      page-alike k s (take n q) p p′ (mask-alike k s page q n b h e) (fit-clear k s h) (rw (W .front) (mask-is-clear k s b (W .passes))) l

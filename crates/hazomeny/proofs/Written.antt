@@ -3,7 +3,7 @@ use Rattle.rules.proofs.Basics.{_≡_, sym, subst, List, _++_, Bool, true, fals
 use Rattle.rules.specs.declared.Answer.{Answer}
 use Rattle.rules.specs.declared.Answer.the-variants.{Done}
 use Rattle.rules.specs.Result.{Result, refused, accepted, said}
-use Rattle.rules.specs.Answers.{written, left-page, plain-text, plain-outcome, plain-outcome-by, document-text, document-outcome, document-outcome-by}
+use Rattle.rules.specs.Answers.{written, left-page, plain-text, plain-outcome, plain-outcome-by, document-text, document-outcome, document-outcome-by, strict-document-text, strict-document-outcome}
 use Rattle.pairs.specs.Masking.{mask-text, mask-outcome}
 
 -- an entry's count is within its page, so as many bytes can be taken from the page's start
@@ -36,6 +36,10 @@ module _ (s page : List ℕ) (a : Answer) {n : ℕ} {page′ : List ℕ} (q : a 
   pub document-in-page : (said a, page′) ≡ document-outcome s page → InPage n page′
   unfolding document-outcome-by
   document-in-page e = counted (document-text s) e
+
+  pub strict-document-in-page : (said a, page′) ≡ strict-document-outcome s page → InPage n page′
+  unfolding document-outcome-by
+  strict-document-in-page e = counted (strict-document-text s) e
 
   pub mask-in-page : (said a, page′) ≡ mask-outcome s page → InPage n page′
   unfolding mask-outcome

@@ -1,5 +1,5 @@
 -- How far the public contracts reach: no second outcome satisfies one, and each of document 01's five wrong programs fails one at an input named here; so
--- do a mask that hides nothing and a check that takes any two files for a pair.
+-- do a mask that hides nothing, a check that takes any two files for a pair, and strict entries that are today's.
 use Rattle.rules.proofs.Basics.{_≡_, refl, sym, _∙_, ap, List, [], ℕ, _+_, _<_, _^_, arith, length, getD, replicate}
 use Rattle.rules.specs.declared.Refusal.{Refusal}
 use Rattle.rules.specs.declared.Answer.{Answer}
@@ -8,8 +8,8 @@ use Rattle.rules.specs.Result.{Result, refused, accepted, said}
 use Rattle.rules.specs.Tree.{Frag}
 use Rattle.rules.specs.Encode.{encode}
 use Rattle.rules.specs.Good.{Bytes}
-use Rattle.rules.specs.Answers.{check-answer, laid-out, changed, left-laid, layout-outcome, layout-outcome-by, coded, coded-outcome, decoded}
-use Rattle.rules.specs.Alike.{Page, plain-page, html-body, html-document, outcome-of}
+use Rattle.rules.specs.Answers.{check-answer, strict-check-answer, laid-out, changed, left-laid, layout-outcome, layout-outcome-by, coded, coded-outcome, decoded}
+use Rattle.rules.specs.Alike.{Page, plain-page, html-body, html-document, strict-body, strict-document, outcome-of}
 use Rattle.rules.specs.Cases.{unhex, call}
 use Rattle.rules.proofs.Chains.{no-path}
 use Rattle.rules.proofs.Open.{all-open}
@@ -18,12 +18,15 @@ use Rattle.pairs.specs.Masking.{mask-text, mask-outcome}
 use Rattle.pairs.specs.Pair.{first-difference, same, or-else, text-in, found-or, text-at, pair-text, length-of, pair-answer}
 use Rattle.pairs.specs.Pair as pairs
 use Rattle.pairs.specs.declared.Answer as Pair
-use Rattle.hazomeny.proofs.Fits.{told-check, told-layout, told-page, told-mask, told-pair}
+use Rattle.hazomeny.proofs.Fits.{told-check, told-strict-check, told-layout, told-page, told-mask, told-pair}
 
 -- ---- NO SECOND OUTCOME SATISFIES A CONTRACT: two answers that do, and the bytes left with them, are equal
 
 pub check-determined : (s : List ℕ) (a b : Answer) → said a ≡ check-answer s → said b ≡ check-answer s → a ≡ b
 check-determined s a b x y = said-unique a b (x ∙ sym y)
+
+pub strict-check-determined : (s : List ℕ) (a b : Answer) → said a ≡ strict-check-answer s → said b ≡ strict-check-answer s → a ≡ b
+strict-check-determined s a b x y = said-unique a b (x ∙ sym y)
 
 pub layout-determined : (w : ℕ) (s : List ℕ) (a b : Answer) (r u : List ℕ) → (said a, r) ≡ layout-outcome w s → (said b, u) ≡ layout-outcome w s → (a ≡ b) × (r ≡ u)
 layout-determined w s = outcome-unique (layout-outcome w s)
@@ -48,6 +51,9 @@ pair-determined o m p a b x y = go a b (x ∙ sym y)
 pub check-said-in-c : (s : List ℕ) (n : ℕ) → n ≡ coded (check-answer s) → decoded n ≡ check-answer s
 check-said-in-c s n e = ap decoded e ∙ coded-back (check-answer s) (told-check s .numbered)
 
+pub strict-check-said-in-c : (s : List ℕ) (n : ℕ) → n ≡ coded (strict-check-answer s) → decoded n ≡ strict-check-answer s
+strict-check-said-in-c s n e = ap decoded e ∙ coded-back (strict-check-answer s) (told-strict-check s .numbered)
+
 pub layout-said-in-c : (w : ℕ) (s : List ℕ) (n : ℕ) (r : List ℕ) → (n, r) ≡ coded-outcome (layout-outcome w s) → (decoded n, r) ≡ layout-outcome w s
 layout-said-in-c w s = coded-outcome-back (layout-outcome w s) (told-layout w s .numbered)
 
@@ -67,12 +73,16 @@ abbrev pub room : Page → ℕ
 room plain-page = 0
 room html-body = 63
 room html-document = 1_072
+room strict-body = 63
+room strict-document = 1_072
 
 empty-page : (k : Page) → outcome-of k [] (replicate (room k) 0) .0 ≡ accepted (room k)
 unfolding all-open
 empty-page plain-page = refl
 empty-page html-body = refl
 empty-page html-document = refl
+empty-page strict-body = refl
+empty-page strict-document = refl
 
 not-refused : {n : ℕ} (x : Refusal) (o : Result ℕ) → said (Refused x) ≡ o → o ≡ accepted n → ⊥
 unfolding said
@@ -83,6 +93,10 @@ not-refused {n} x o e f =
 pub check-refuses-not-all : (x : Refusal) → said (Refused x) ≡ check-answer [] → ⊥
 unfolding all-open
 check-refuses-not-all x e = not-refused x (check-answer []) e refl
+
+pub strict-check-refuses-not-all : (x : Refusal) → said (Refused x) ≡ strict-check-answer [] → ⊥
+unfolding all-open
+strict-check-refuses-not-all x e = not-refused x (strict-check-answer []) e refl
 
 pub layout-refuses-not-all : (x : Refusal) (t : List ℕ) → (said (Refused x), t) ≡ layout-outcome 0 [] → ⊥
 unfolding all-open
@@ -104,6 +118,8 @@ abbrev spot : Page → ℕ
 spot plain-page = 0
 spot html-body = 57
 spot html-document = 1_050
+spot strict-body = 57
+spot strict-document = 1_050
 
 -- a page for one byte of text
 abbrev one-longer : Page → List ℕ
@@ -114,6 +130,8 @@ unfolding all-open x-file y-file
 texts-stand plain-page = (refl, refl)
 texts-stand html-body = (refl, refl)
 texts-stand html-document = (refl, refl)
+texts-stand strict-body = (refl, refl)
+texts-stand strict-document = (refl, refl)
 
 pub page-not-fixed : (k : Page) (r : List ℕ) (a b : Answer) → (said a, r) ≡ outcome-of k x-file (one-longer k) → (said b, r) ≡ outcome-of k y-file (one-longer k) → ⊥
 page-not-fixed k r a b e e′ = omega (arith, texts-stand k, ap (λ o. getD (o .1) (spot k) 0) e, ap (λ o. getD (o .1) (spot k) 0) e′)
@@ -175,3 +193,22 @@ no-mask-of-itself = refl
 pub its-mask : pair-answer y-file x-file 3 ≡ accepted 1
 unfolding all-open pair-answer length-of pair-text text-at found-or text-in or-else same first-difference x-file y-file
 its-mask = refl
+
+-- ---- STRICT PAGES THAT ARE TODAY'S, AND A STRICT CHECK THAT IS TODAY'S: of a CR the one page has `&`, the other the CR; a NUL is refused by 14
+
+unfoldable pub cr-file : List ℕ
+cr-file = unhex "010004 110001 0D"
+
+unfoldable pub nul-file : List ℕ
+nul-file = unhex "010004 110001 00"
+
+strict-spot : (getD (outcome-of html-body cr-file (replicate 68 0) .1) 57 0 ≡ 13) × (getD (outcome-of strict-body cr-file (replicate 68 0) .1) 57 0 ≡ 38)
+unfolding all-open cr-file
+strict-spot = (refl, refl)
+
+pub strict-is-not-today : (a b : Answer) (r : List ℕ) → (said a, r) ≡ outcome-of html-body cr-file (replicate 68 0) → (said b, r) ≡ outcome-of strict-body cr-file (replicate 68 0) → ⊥
+strict-is-not-today a b r e e′ = omega (arith, strict-spot, ap (λ o. getD (o .1) 57 0) e, ap (λ o. getD (o .1) 57 0) e′)
+
+pub strict-check-is-not-today : (a : Answer) → said a ≡ check-answer nul-file → said a ≡ strict-check-answer nul-file → ⊥
+unfolding all-open nul-file
+strict-check-is-not-today a e e′ = let z : _≡_ {A = Result ℕ} (accepted 0) (refused 14 3) = sym e ∙ e′ in no-path cc

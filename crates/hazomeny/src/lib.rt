@@ -18,13 +18,14 @@ use scribe::numbers::numbered;
 use scribe::numbers::style_in;
 use scribe::stepping::step_near;
 use verify::walk::check;
+use verify::walk::check_strict;
 ghost use mathlib.Core.Path.{_≡_};
 ghost use Rattle.rules.specs.Result.{said};
 ghost use Rattle.scribe.specs.InC.{write-in-c, Leaves};
 ghost use Rattle.pairs.specs.Masking.{mask-outcome};
 ghost use Rattle.pairs.specs.Pair as pairs;
 ghost use Rattle.pairs.specs.Pair.{pair-answer, given-text};
-ghost use Rattle.rules.specs.Answers.{check-answer, layout-outcome, plain-outcome, body-outcome, document-outcome, coded, coded-outcome};
+ghost use Rattle.rules.specs.Answers.{check-answer, layout-outcome, plain-outcome, body-outcome, document-outcome, strict-check-answer, strict-body-outcome, strict-document-outcome, coded, coded-outcome};
 
 // The file check: accepted with 0, or the first fault's number and place.
 pub fn check_file(file: &[u8]) -> Answer
@@ -38,6 +39,20 @@ pub extern "C" fn hazomeny_check(file: &[u8]) -> u64
     ensures { λ r. ⌜ r ≡ coded (check-answer (now (file .entry))) ⌝ }
 {
     in_one(check_file(file))
+}
+
+// The file check for strict HTML: a NUL in a text is refused too, by 14.
+pub fn check_file_strict(file: &[u8]) -> Answer
+    ensures { λ r. ⌜ said r ≡ strict-check-answer (now (file .entry)) ⌝ }
+{
+    check_strict(file)
+}
+
+#[no_mangle]
+pub extern "C" fn hazomeny_check_strict(file: &[u8]) -> u64
+    ensures { λ r. ⌜ r ≡ coded (strict-check-answer (now (file .entry))) ⌝ }
+{
+    in_one(check_file_strict(file))
 }
 
 // Layout in place, at a width in columns: accepted with the number of tags that changed from 4 to 3; a refusal changes no byte.
@@ -95,6 +110,34 @@ pub extern "C" fn hazomeny_html_document(file: &[u8], page: &mut [u8]) -> u64
     ensures { λ r. ⌜ (r, now (page .exit)) ≡ coded-outcome (document-outcome (now (file .entry)) (now (page .entry))) ⌝ }
 {
     in_one(html_document(file, page))
+}
+
+// The HTML body in which a CR of a text is `&#13;`, so that a browser keeps it. A file with a NUL in a text, which no browser keeps, is refused by 14.
+pub fn html_body_strict(file: &[u8], page: &mut [u8]) -> Answer
+    ensures { λ r. ⌜ (said r, now (page .exit)) ≡ strict-body-outcome (now (file .entry)) (now (page .entry)) ⌝ }
+{
+    render_page(Kind::StrictBody, file, page)
+}
+
+#[no_mangle]
+pub extern "C" fn hazomeny_html_body_strict(file: &[u8], page: &mut [u8]) -> u64
+    ensures { λ r. ⌜ (r, now (page .exit)) ≡ coded-outcome (strict-body-outcome (now (file .entry)) (now (page .entry))) ⌝ }
+{
+    in_one(html_body_strict(file, page))
+}
+
+// The document of that body.
+pub fn html_document_strict(file: &[u8], page: &mut [u8]) -> Answer
+    ensures { λ r. ⌜ (said r, now (page .exit)) ≡ strict-document-outcome (now (file .entry)) (now (page .entry)) ⌝ }
+{
+    render_page(Kind::StrictDocument, file, page)
+}
+
+#[no_mangle]
+pub extern "C" fn hazomeny_html_document_strict(file: &[u8], page: &mut [u8]) -> u64
+    ensures { λ r. ⌜ (r, now (page .exit)) ≡ coded-outcome (strict-document-outcome (now (file .entry)) (now (page .entry))) ⌝ }
+{
+    in_one(html_document_strict(file, page))
 }
 
 // The mask of a file: every byte of a text but newlines is `x`. Accepted with its length, written from the page's start; otherwise as the plain page.

@@ -176,13 +176,20 @@ module _ (s : List ℕ) (t : Frag ℕ) (bs : Bytes s) where
       let ms = texts-of (tree-read s t bs loose) in
       (loose, record { nowhere = along-places 0 (text-places s) s (subst (λ ns. Along 0 ns s) (sym ms) (subst (Along 0 (in-texts (frag-fields t))) (R .encodes) L)) })
 
--- a page's file is read as it is by document 01, where strict mode does not refuse it
+-- a page's file is read as it is by document 01, where strict mode does not refuse it, and the other way round
 pub clear-tree : (k : Page) (s : List ℕ) (t : Frag ℕ) → Bytes s → tree s ≡ accepted t → Clear k s → tree-of k s ≡ accepted t
 clear-tree plain-page s t bs e C = e
 clear-tree html-body s t bs e C = e
 clear-tree html-document s t bs e C = e
 clear-tree strict-body s t bs e C = strict-reads s t bs e C
 clear-tree strict-document s t bs e C = strict-reads s t bs e C
+
+pub loose-tree : (k : Page) (s : List ℕ) (t : Frag ℕ) → Bytes s → tree-of k s ≡ accepted t → tree s ≡ accepted t
+loose-tree plain-page s t bs e = e
+loose-tree html-body s t bs e = e
+loose-tree html-document s t bs e = e
+loose-tree strict-body s t bs e = strict-read s t bs e .0
+loose-tree strict-document s t bs e = strict-read s t bs e .0
 
 -- STRICT MODE ACCEPTS A FILE EXACTLY WHERE DOCUMENT 01 DOES AND NO TEXT HAS A NUL
 pub strict-accepted : (s : List ℕ) → Bytes s → (strict-check-answer s ≡ accepted 0) ↔ ((check-answer s ≡ accepted 0) × Without 0 s)

@@ -128,6 +128,9 @@ strict-check-answer s = check-answer-by strict-tree s
 abbrev pub strict-body-text : List ℕ → Result (List ℕ)
 strict-body-text s = body-text-by strict-tree strict-escape s
 
+abbrev pub strict-document-text : List ℕ → Result (List ℕ)
+strict-document-text s = document-text-by strict-tree strict-escape s
+
 abbrev pub strict-body-outcome : (s page : List ℕ) → Result ℕ × List ℕ
 strict-body-outcome s page = body-outcome-by strict-tree strict-escape s page
 
