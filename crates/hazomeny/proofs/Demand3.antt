@@ -1,17 +1,18 @@
 -- Demand 3 stated of the public contracts (src/lib.rt): what satisfies them on two accepted files that are equal but for bytes inside texts. The words are
 -- those of rules/specs/Alike; `said` is what an answer says, `decoded` what the number that a C name answers says.
-use Rattle.rules.proofs.Basics.{_≡_, sym, _∙_, ap, List, ℕ, length}
+use Rattle.rules.proofs.Basics.{_≡_, sym, _∙_, ap, List, _∷_, true, false, ℕ, _<_, eqb, length, getD, eqb-true, eq-eqb}
 use Rattle.rules.specs.declared.Answer.{Answer}
 use Rattle.rules.specs.Result.{Result, accepted, said}
 use Rattle.rules.specs.Good.{Bytes}
 use Rattle.rules.specs.Answers.{check-answer, check-answer-by, strict-check-answer, layout-outcome, coded, coded-outcome, decoded}
-use Rattle.rules.specs.Mask.{Without}
+use Rattle.rules.specs.Mask.{text-places, Byte-alike, Without}
 use Rattle.rules.specs.Alike.{AlikeFiles, SameLayout, Page, outcome-of, kept, Clear, OneList}
 use Rattle.rules.proofs.Chains.{bind-inv}
 use Rattle.rules.proofs.Strict.{strict-accepted}
 use Rattle.rules.proofs.StrictLaid.{left-clear}
 use Rattle.rules.proofs.Unique.{said-unique, coded-outcome-back}
 use Rattle.rules.proofs.Demand3.{same-layout, one-list}
+use Rattle.pairs.proofs.Masks.{alike-texts}
 use Rattle.hazomeny.proofs.Fits.{Told, told-layout, told-page}
 
 abbrev Outcome : Type 0
@@ -54,9 +55,21 @@ module _ {keep s s′ : List ℕ} (F : AlikeFiles keep s s′) where
     unfolding coded
     strict-check-alike-in-c n n′ e e′ = (e ∙ ap coded (passes-strictly ∙ sym passes-strictly′) ∙ sym e′, e ∙ ap coded passes-strictly)
 
-  -- strict acceptance of one gives the other's, where that has no NUL in a text
-  pub strict-acceptance : Without 0 s′ → strict-check-answer s ≡ accepted 0 → strict-check-answer s′ ≡ accepted 0
-  strict-acceptance C′ e = strict-accepted s′ (F .bytes′) .1 (F .passes′, C′)
+-- STRICT ACCEPTANCE OF ONE GIVES THE OTHER'S, where NULs stand alike too, as they do where no text of either has one
+module _ {keep s s′ : List ℕ} (F : AlikeFiles (0 ∷ keep) s s′) where
+  nul-alike : Without 0 s → Without 0 s′
+  nul-alike W =
+      record {
+        nowhere = λ k l m z.
+            let l₁ : k < length s = rw (F .alike .same-length) l in
+            let m₁ : getD (text-places s) k false ≡ true = rw (alike-texts F) at m in
+            let B : Byte-alike (0 ∷ keep) true (getD s k 0) (getD s′ k 0) = rw m₁ at (F .alike .at k l₁) in
+            let h : eqb (getD s k 0) 0 ≡ eqb (getD s′ k 0) 0 = cc in
+            W .nowhere k l₁ m₁ (eqb-true (getD s k 0) 0 (h ∙ eq-eqb (getD s′ k 0) 0 z));
+      }
+
+  pub strict-acceptance : strict-check-answer s ≡ accepted 0 → strict-check-answer s′ ≡ accepted 0
+  strict-acceptance e = strict-accepted s′ (F .bytes′) .1 (F .passes′, nul-alike (strict-accepted s (F .bytes) .0 e .1))
 
 -- LAYOUT ANSWERS BOTH ALIKE, CHANGES THE SAME PLACES AND LEAVES SUCH FILES, from which the page k may follow
 module _ (k : Page) (w : ℕ) (s s′ : List ℕ) (F : AlikeFiles (kept k) s s′) where

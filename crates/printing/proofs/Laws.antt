@@ -3,7 +3,7 @@ use Rattle.rules.proofs.Basics.{_≡_, refl, ap, List, [], _++_, append-nil, �
 use Rattle.rules.specs.declared.Answer.{Answer}
 use Rattle.rules.specs.declared.Answer.the-variants.{Done, Refused}
 use Rattle.rules.specs.declared.Refusal.{Refusal}
-use Rattle.rules.specs.declared.Refusal.the-variants.{TooLong, TooWide, Cut, WrongTag, WrongLength, TooDeep, NotUtf8, BadStyle, QuoteInAnchor, PageTooShort}
+use Rattle.rules.specs.declared.Refusal.the-variants.{TooLong, TooWide, Cut, WrongTag, WrongLength, TooDeep, NotUtf8, BadStyle, QuoteInAnchor, PageTooShort, NulInText}
 use Rattle.rules.specs.Result.{refusal, said}
 use Rattle.rules.specs.Answers.{layout-outcome}
 use Rattle.printing.specs.declared.Wanted.{Wanted}
@@ -29,6 +29,7 @@ module _ (wanted : Wanted) (width : ℕ) (file page : List ℕ) {a : Answer} {fi
       go (BadStyle p) = refl
       go (QuoteInAnchor p) = refl
       go (PageTooShort n) = refl
+      go (NulInText p) = refl
 
 -- the file is lent from the third byte on, and put back there
 pub asked-laid : (wanted : Wanted) (input page : List ℕ) {a b : ℕ} {ys page′ : List ℕ} → 2 ≤ length input → a ≡ getD input 0 0 → b ≡ getD input 1 0

@@ -5,15 +5,16 @@ use lib.Dec.{leb}
 use lib.ListN.{length, getD, take, drop}
 use Rattle.rules.specs.Bytes.{if_then_else_}
 use Rattle.rules.specs.Result.{Result, refused, accepted}
-use Rattle.rules.specs.Answers.{layout-outcome, plain-outcome, document-outcome}
+use Rattle.rules.specs.Answers.{layout-outcome, plain-outcome, document-outcome, strict-document-outcome}
 use Rattle.pairs.specs.Masking.{mask-outcome}
 use Rattle.printing.specs.declared.Wanted.{Wanted}
-use Rattle.printing.specs.declared.Wanted.the-variants.{PlainPage, Document}
+use Rattle.printing.specs.declared.Wanted.the-variants.{PlainPage, Document, StrictDocument}
 
 -- the page with what is wanted of a file
 unfoldable pub with-page : Wanted → (file page : List ℕ) → List ℕ
 with-page PlainPage file page = plain-outcome file page .1
 with-page Document file page = document-outcome file page .1
+with-page StrictDocument file page = strict-document-outcome file page .1
 
 -- the page with the mask of a file
 unfoldable pub with-mask : (file page : List ℕ) → List ℕ

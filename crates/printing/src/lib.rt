@@ -1,7 +1,9 @@
 // Printing a page that is asked for in some input: two bytes of width, high byte first, and a file. The file is laid out at the width, and its
 // page printed and nothing more; a refusal prints `refused N at P` and a newline.
 use fields::wide;
+use hazomeny::check_file_strict;
 use hazomeny::html_document;
+use hazomeny::html_document_strict;
 use hazomeny::layout_file;
 use hazomeny::mask_file;
 use hazomeny::plain_page;
@@ -25,6 +27,7 @@ pub const INPUT: usize = 2 + FILE;
 pub enum Wanted {
     PlainPage,
     Document,
+    StrictDocument,
 }
 
 fn refuse(r: Refusal) {
@@ -56,6 +59,29 @@ fn print_page(wanted: Wanted, file: &[u8], page: &mut [u8])
             let a = html_document(file, page);
             print_answer(page, a);
         }
+        Wanted::StrictDocument => {
+            let a = html_document_strict(file, page);
+            print_answer(page, a);
+        }
+    }
+}
+
+// A file that layout refuses in the walk may have a NUL in a text before that fault, which strict mode refuses first.
+fn refuse_strictly(file: &[u8], r: Refusal) {
+    match check_file_strict(file) {
+        Answer::Done(n) => refuse(r),
+        Answer::Refused(first) => refuse(first),
+    }
+}
+
+// The refusal of a file that was not laid out.
+fn refuse_layout(wanted: Wanted, file: &[u8], r: Refusal) {
+    match r {
+        Refusal::TooWide => refuse(r),
+        _ => match wanted {
+            Wanted::StrictDocument => refuse_strictly(file, r),
+            _ => refuse(r),
+        },
     }
 }
 
@@ -65,7 +91,7 @@ fn lay_out_and_print(wanted: Wanted, file: &mut [u8], width: usize, page: &mut [
 {
     match layout_file(file, width) {
         Answer::Done(n) => print_page(wanted, file, page),
-        Answer::Refused(r) => refuse(r),
+        Answer::Refused(r) => refuse_layout(wanted, file, r),
     }
 }
 
