@@ -31,6 +31,7 @@ pub fn told(r: Refusal) -> Numbered
         Refusal::BadStyle(p) => at(8, p),
         Refusal::QuoteInAnchor(p) => at(9, p),
         Refusal::PageTooShort(needed) => at(10, needed),
+        Refusal::NulInText(p) => at(14, p),
     }
 }
 

@@ -8,7 +8,7 @@ use scribe::plan::ANCHOR;
 use scribe::put::put_field;
 use scribe::put::put_header;
 use scribe::stepping::Spot;
-use utf8::has_quote;
+use utf8::has_byte;
 ghost use mathlib.Core.Path.{_≡_};
 ghost use mathlib.Core.Bool.{true};
 ghost use mathlib.Core.List.{List};
@@ -26,7 +26,7 @@ fn plain_name(v: &[u8]) -> bool
     ensures { λ r. ⌜ (r ≡ true → first-fault (anchor-content (now (v .entry))) ≡ 0) ⌝ }
 {
     if plain(v) {
-        return !has_quote(v);
+        return !has_byte(v, b'"');
     }
     false
 }

@@ -7,7 +7,7 @@ use moves::Plan;
 use moves::Style;
 use utf8::Utf8;
 use utf8::check_utf8;
-use utf8::has_quote;
+use utf8::has_byte;
 use verify::style::right_opacity;
 use verify::style::right_size;
 use verify::style::word;
@@ -36,7 +36,7 @@ fn name_fault(v: &[u8]) -> usize
     let Utf8::Sound = check_utf8(v) else {
         return 7;
     };
-    if has_quote(v) {
+    if has_byte(v, b'"') {
         return 9;
     }
     0

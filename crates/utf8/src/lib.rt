@@ -1,4 +1,4 @@
-// UTF-8 by the grammar of RFC 3629, section 4, over a slice, each byte read once; and whether a slice has a double quote.
+// UTF-8 by the grammar of RFC 3629, section 4, over a slice, each byte read once; and whether a slice has a byte.
 ghost use mathlib.Core.Path.{_≡_};
 ghost use lib.ListN.{length};
 ghost use Rattle.rules.specs.Bytes.{has};
@@ -150,13 +150,13 @@ pub fn check_utf8(s: &[u8]) -> Utf8
     check_each(s)
 }
 
-// Whether a double quote is among the bytes.
-pub fn has_quote(s: &[u8]) -> bool
-    ensures { λ r. ⌜ r ≡ has 34 (now (s .entry)) ⌝ }
+// Whether `b` is among the bytes.
+pub fn has_byte(s: &[u8], b: u8) -> bool
+    ensures { λ r. ⌜ r ≡ has b (now (s .entry)) ⌝ }
 {
     let mut i = 0;
     while i < s.len() {
-        if s[i] == b'"' {
+        if s[i] == b {
             return true;
         }
         i += 1;

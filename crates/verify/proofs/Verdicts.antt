@@ -1,7 +1,7 @@
 -- What an answer of the file check says of the file, for whoever goes on from it.
 use Rattle.rules.proofs.Basics.{_≡_, refl, sym, ap, _∙_, List, [], _∷_, ℕ, suc, _<_, getD}
 use Rattle.rules.specs.declared.Refusal.{Refusal}
-use Rattle.rules.specs.declared.Refusal.the-variants.{TooLong, TooWide, Cut, WrongTag, WrongLength, TooDeep, NotUtf8, BadStyle, QuoteInAnchor, PageTooShort}
+use Rattle.rules.specs.declared.Refusal.the-variants.{TooLong, TooWide, Cut, WrongTag, WrongLength, TooDeep, NotUtf8, BadStyle, QuoteInAnchor, PageTooShort, NulInText}
 use Rattle.rules.specs.declared.Answer.{Answer}
 use Rattle.rules.specs.declared.Answer.the-variants.{Done, Refused}
 use Rattle.rules.specs.Result.{Result, refused, accepted, _>>=_, refusal, said}
@@ -32,6 +32,7 @@ not-accepted (NotUtf8 p) n e = differ (sym e)
 not-accepted (BadStyle p) n e = differ (sym e)
 not-accepted (QuoteInAnchor p) n e = differ (sym e)
 not-accepted (PageTooShort p) n e = differ (sym e)
+not-accepted (NulInText p) n e = differ (sym e)
 
 -- the file was refused, with the answer's number and place
 pub record RefusedSo (s : List ℕ) (x : Result ℕ) : Type 0 where

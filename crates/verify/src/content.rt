@@ -5,7 +5,7 @@ use crate::verdict::fault;
 use looks::calm;
 use utf8::Utf8;
 use utf8::check_utf8;
-use utf8::has_quote;
+use utf8::has_byte;
 ghost use mathlib.Core.Path.{_≡_};
 ghost use Prim.Native.Nat.{_≤_};
 ghost use lib.ListN.{length};
@@ -60,7 +60,7 @@ pub fn check_name(s: &[u8], from: usize, to: usize, place: usize) -> Verdict
     let Utf8::Sound = check_utf8(v) else {
         return fault(7, place);
     };
-    if has_quote(v) {
+    if has_byte(v, b'"') {
         return fault(9, place);
     }
     SOUND
