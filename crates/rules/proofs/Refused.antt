@@ -1,12 +1,12 @@
 -- Refusals: a refused file's place is at most its length, and its number is one of the walk's.
-use Rattle.rules.proofs.Basics.{_≡_, refl, sym, List, [], _∷_, map, Option, none, some, Bool, true, false, _||_, ℕ, zero, suc, _+_, _≤_, _<_, le-refl, arith, leb, eqb, length, take, leb-true, leb-false}
+use Rattle.rules.proofs.Basics.{_≡_, refl, sym, List, [], _∷_, _++_, map, Option, none, some, Bool, true, false, not, _||_, inl, inr, _⊎_, ℕ, zero, suc, _+_, _≤_, _<_, le-refl, arith, leb, eqb, length, take, leb-true, leb-false}
 use Rattle.rules.specs.Limits.{most-bytes}
-use Rattle.rules.specs.Bytes.{if_then_else_}
+use Rattle.rules.specs.Bytes.{if_then_else_, has}
 use Rattle.rules.specs.Result.{Result, refused, accepted, _>>=_, _>>_, need, Check, _or-refuse_, sound}
-use Rattle.rules.specs.Walk.{Fields, Holder, in-fragment, in-block, in-text, in-anchor, in-styles, front, front-to, Content, valued, walk, walk-to, check, check-to, text-content, anchor-content, content, complete, tags, holds}
-use Rattle.rules.specs.Tree.{Frag, read-to, frag-of}
+use Rattle.rules.specs.Walk.{Fields, Holder, in-fragment, in-block, in-text, in-anchor, in-styles, front, front-to, Content, valued, walk, walk-to, check, check-to, text-content, anchor-content, content, is-text, strict-content, content-in, complete, tags, holds}
+use Rattle.rules.specs.Tree.{Frag, read, read-to, frag-of}
 use Rattle.rules.specs.Good.{depth-in}
-use Rattle.rules.specs.Answers.{itself, tree}
+use Rattle.rules.specs.Answers.{itself, tree, strict-tree}
 use Rattle.rules.proofs.Chains.{no-path}
 use Rattle.rules.proofs.Fuel.{front-fits}
 
@@ -21,16 +21,35 @@ Numbers Ok (b or-refuse n ∷ cs) = Ok n × Numbers Ok cs
 abbrev pub Fault : ℕ → Type 0
 Fault n = (3 ≤ n) × (n ≤ 9)
 
-if-faults : (b : Bool) (cs ds : List Check) → Numbers Fault cs → Numbers Fault ds → Numbers Fault (if b then cs else ds)
-if-faults true cs ds x y = x
-if-faults false cs ds x y = y
+-- and those of a walk in either mode
+abbrev pub StrictFault : ℕ → Type 0
+StrictFault n = Fault n ⊎ (n ≡ 14)
+
+if-faults : (Ok : ℕ → Type 0) (b : Bool) (cs ds : List Check) → Numbers Ok cs → Numbers Ok ds → Numbers Ok (if b then cs else ds)
+if-faults Ok true cs ds x y = x
+if-faults Ok false cs ds x y = y
 
 content-faults : (t : ℕ) (v : List ℕ) → Numbers Fault (content t v)
 unfolding content text-content anchor-content
 content-faults t v =
-    if-faults (eqb t 17 || eqb t 7) _ _ (omega arith, tt)
-    (if-faults (eqb t 18 || eqb t 19) _ _ (omega arith, (omega arith, tt))
-    (if-faults (eqb t 33) _ _ (omega arith, tt) (if-faults (eqb t 35) _ [] (omega arith, tt) tt)))
+    if-faults Fault (eqb t 17 || eqb t 7) _ _ (omega arith, tt)
+    (if-faults Fault (eqb t 18 || eqb t 19) _ _ (omega arith, (omega arith, tt))
+    (if-faults Fault (eqb t 33) _ _ (omega arith, tt) (if-faults Fault (eqb t 35) _ [] (omega arith, tt) tt)))
+
+also-strict : (cs : List Check) → Numbers Fault cs → Numbers StrictFault cs
+also-strict [] x = tt
+also-strict (b or-refuse n ∷ cs) x = (inl (x .0), also-strict cs (x .1))
+
+with-last : (cs : List Check) (b : Bool) (n : ℕ) → Numbers StrictFault cs → StrictFault n → Numbers StrictFault (cs ++ (b or-refuse n ∷ []))
+with-last [] b n x y = (y, tt)
+with-last (c or-refuse m ∷ cs) b n x y = (x .0, with-last cs b n (x .1) y)
+
+faults-in : (strict : Bool) (t : ℕ) (v : List ℕ) → Numbers StrictFault (content-in strict t v)
+unfolding strict-content
+faults-in false t v = also-strict (content t v) (content-faults t v)
+faults-in true t v =
+    let loose = also-strict (content t v) (content-faults t v) in
+    if-faults StrictFault (is-text t) _ _ (with-last (content t v) (not (has 0 v)) 14 loose (inr refl)) loose
 
 -- ---- where a refusal stands, for any content and whatever numbers it has beside document 01's
 
@@ -110,23 +129,38 @@ module _ (Ok : ℕ → Type 0) where
         tt
 
 -- what a refused file is: too long, or at fault in the walk
-pub data Refusable (s : List ℕ) (n p : ℕ) : Type 0 where
-  too-long : n ≡ 1 → p ≡ 0 → most-bytes < length s → Refusable s n p
-  at-fault : Fault n → p ≤ length s → length s ≤ most-bytes → Refusable s n p
+pub data RefusableBy (Ok : ℕ → Type 0) (s : List ℕ) (n p : ℕ) : Type 0 where
+  too-long : n ≡ 1 → p ≡ 0 → most-bytes < length s → RefusableBy Ok s n p
+  at-fault : Ok n → p ≤ length s → length s ≤ most-bytes → RefusableBy Ok s n p
+
+abbrev pub Refusable : (s : List ℕ) (n p : ℕ) → Type 0
+Refusable s n p = RefusableBy Fault s n p
 
 -- A REFUSED FILE'S PLACE IS AT MOST ITS LENGTH
+module _ (Ok : ℕ → Type 0) (low : (n : ℕ) → Fault n → Ok n) (asked : Content) (F : (t : ℕ) (v : List ℕ) → Numbers Ok (asked t v)) (s : List ℕ) (n p : ℕ) where
+  refused-by : read asked itself s ≡ refused n p → RefusableBy Ok s n p
+  unfolding read-to check-to _>>=_ _>>_ need
+  refused-by e = go (leb (length s) most-bytes) (walk asked itself (length s) in-fragment 0 0 0 s) refl (walk-stood Ok low asked F itself (length s) in-fragment 0 0 0 s) e
+    where
+      go : (b : Bool) (r : Result (Fields ℕ)) → b ≡ leb (length s) most-bytes → Stands-within Ok 0 (0 + length s) r
+          → ((need b 1 0 >> r) >>= (λ i. accepted (frag-of itself i))) ≡ refused n p → RefusableBy Ok s n p
+      go false r q S e = too-long (cc) (cc) (leb-false (length s) most-bytes (sym q))
+      go true (accepted i) q S e = no-path (cc)
+      go true (refused m r) q S e =
+          let x : m ≡ n = cc in
+          let y : r ≡ p = cc in
+          at-fault (rw x at (S .number)) (omega (arith, S .to)) (leb-true (length s) most-bytes (sym q))
+
 pub refused-place : (s : List ℕ) (n p : ℕ) → tree s ≡ refused n p → Refusable s n p
-unfolding tree read-to check-to _>>=_ _>>_ need
-refused-place s n p e = go (leb (length s) most-bytes) (walk content itself (length s) in-fragment 0 0 0 s) refl (walk-stood Fault (λ n f. f) content content-faults itself (length s) in-fragment 0 0 0 s) e
-  where
-    go : (b : Bool) (r : Result (Fields ℕ)) → b ≡ leb (length s) most-bytes → Stands-within Fault 0 (0 + length s) r
-        → ((need b 1 0 >> r) >>= (λ i. accepted (frag-of itself i))) ≡ refused n p → Refusable s n p
-    go false r q S e = too-long (cc) (cc) (leb-false (length s) most-bytes (sym q))
-    go true (accepted i) q S e = no-path (cc)
-    go true (refused m r) q S e =
-        let x : m ≡ n = cc in
-        let y : r ≡ p = cc in
-        at-fault (rw x at (S .number)) (omega (arith, S .to)) (leb-true (length s) most-bytes (sym q))
+unfolding tree
+refused-place s n p e = refused-by Fault (λ n f. f) content content-faults s n p e
+
+pub refused-in : (strict : Bool) (s : List ℕ) (n p : ℕ) → read (content-in strict) itself s ≡ refused n p → RefusableBy StrictFault s n p
+refused-in strict s n p e = refused-by StrictFault (λ n f. inl f) (content-in strict) (faults-in strict) s n p e
+
+pub strict-refused-place : (s : List ℕ) (n p : ℕ) → strict-tree s ≡ refused n p → RefusableBy StrictFault s n p
+unfolding strict-tree
+strict-refused-place s n p e = refused-in true s n p e
 
 -- ONE VERDICT: every file, a cut one too, is accepted or refused, and never both
 pub data Verdict (s : List ℕ) : Type 0 where
