@@ -10,3 +10,4 @@ pub mod TagLaws
 pub mod AnchorLaws
 pub mod EscapeLaws
 pub mod RunLaws
+pub mod ReturnLaws

@@ -7,7 +7,7 @@ use Rattle.writing.specs.Written.{last, moved, Written}
 use Rattle.writing.proofs.Laws.{nothing, then, kept}
 use Rattle.writing.proofs.Turns.{stored}
 use Rattle.markup.specs.Runs.{escaped-text, Plain, PlainTo, Begun}
-use Rattle.markup.proofs.EscapeLaws.{escaped-byte, more, no-bytes, none-yet, escaped-append, last-byte, left-as-it-is, all}
+use Rattle.markup.proofs.EscapeLaws.{escaped-byte, more, no-bytes, none-yet, text-append, last-byte, left-as-it-is, all}
 
 -- ---- a window
 
@@ -20,7 +20,7 @@ as-it-stands b n m = rw (ne-eqb b 38 n, ne-eqb b 60 m)
 
 one-plain : (text : List ℕ) (k : ℕ) → Plain (take k text) → k < length text → (getD text k 0 ≡ 38 → ⊥) → (getD text k 0 ≡ 60 → ⊥) → Plain (take (k + 1) text)
 one-plain text k P h n m =
-    record { same = rw (add-one, take-suc text k 0 h, last-byte (take k text) (getD text k 0), P .same, as-it-stands (getD text k 0) n m) }
+    record { same = rw (add-one, take-suc text k 0 h, last-byte escape (take k text) (getD text k 0), P .same, as-it-stands (getD text k 0) n m) }
 
 -- the loop stands behind k bytes, and found one that is escaped or not
 pub record Looked (text : List ℕ) (k : ℕ) (found : Bool) : Type 0 where
@@ -28,7 +28,7 @@ pub record Looked (text : List ℕ) (k : ℕ) (found : Bool) : Type 0 where
   pub plain : found ≡ false → Plain (take k text)
 
 pub none-looked : (text : List ℕ) → Looked text 0 false
-none-looked text = record { count = omega arith; plain = λ q. record { same = no-bytes } }
+none-looked text = record { count = omega arith; plain = λ q. record { same = no-bytes escape } }
 
 pub one-found : {text : List ℕ} {k : ℕ} {found : Bool} → k < 8 → found ≡ true → Looked text (k + 1) found
 one-found h e = record { count = omega arith; plain = λ q. absurd (false≢true (sym q ∙ e)) }
@@ -61,7 +61,7 @@ all-pasted {w = w} {k = k} f h l = let e : k ≡ 8 = omega (arith, f .count) in 
 -- ---- a run that is copied
 
 pub none-begun : {page : List ℕ} {at : ℕ} {text : List ℕ} → Begun page at text page 0
-none-begun {at = at} = let e : at + 0 ≡ at = omega arith in record { within = omega arith; written = rw e none-yet }
+none-begun {at = at} = let e : at + 0 ≡ at = omega arith in record { within = omega arith; written = rw e (none-yet escape) }
 
 module _ {page text page′ : List ℕ} {at n : ℕ} (f : Begun page at text page′ n) (room : at + length text ≤ last) where
   -- a window more
@@ -71,7 +71,7 @@ module _ {page text page′ : List ℕ} {at n : ℕ} (f : Begun page at text pag
       let e : n + 8 - n ≡ 8 = omega arith in
       let k : at + n + 8 ≡ at + (n + 8) = omega arith in
       let P′ : Plain (take 8 (drop n text)) = rw e at P in
-      record { within = h; written = rw (take-add n 8 text, escaped-append (take n text) (take 8 (drop n text)), P′ .same) (rw (q, e, k) at (then (f .written) w)) }
+      record { within = h; written = rw (take-add n 8 text, text-append escape (take n text) (take 8 (drop n text)), P′ .same) (rw (q, e, k) at (then (f .written) w)) }
 
   -- a byte more
   pub byte-copied : n < length text → {r : Bool} → (r ≡ false → (getD text n 0 ≡ 38 → ⊥) × (getD text n 0 ≡ 60 → ⊥)) → r ≡ false
@@ -79,18 +79,18 @@ module _ {page text page′ : List ℕ} {at n : ℕ} (f : Begun page at text pag
   unfolding moved
   byte-copied h o e =
       let b = getD text n 0 in
-      record { within = omega arith; written = more text n (f .written) h (left-as-it-is b (o e .0) (o e .1) (stored page′ (at + n) b (omega arith))) }
+      record { within = omega arith; written = more escape text n (f .written) h (left-as-it-is b (o e .0) (o e .1) (stored page′ (at + n) b (omega arith))) }
 
 -- ---- windows that are counted
 
 pub none-counted : (text : List ℕ) → PlainTo text 0
-none-counted text = record { within = omega arith; plain = record { same = no-bytes } }
+none-counted text = record { within = omega arith; plain = record { same = no-bytes escape } }
 
 pub window-counted : {text : List ℕ} {n : ℕ} → PlainTo text n → n + 8 ≤ length text → Plain (take (n + 8 - n) (drop n text)) → PlainTo text (n + 8)
 window-counted {text} {n} C h P =
     let e : n + 8 - n ≡ 8 = omega arith in
     let P′ : Plain (take 8 (drop n text)) = rw e at P in
-    record { within = h; plain = record { same = rw (take-add n 8 text, escaped-append (take n text) (take 8 (drop n text)), C .plain .same, P′ .same) } }
+    record { within = h; plain = record { same = rw (take-add n 8 text, text-append escape (take n text) (take 8 (drop n text)), C .plain .same, P′ .same) } }
 
 pub byte-counted : {text : List ℕ} {n : ℕ} {r : Bool} → PlainTo text n → n < length text → (r ≡ false → (getD text n 0 ≡ 38 → ⊥) × (getD text n 0 ≡ 60 → ⊥)) → r ≡ false → PlainTo text (n + 1)
 byte-counted {text} {n} C h o e = record { within = omega arith; plain = one-plain text n (C .plain) h (o e .0) (o e .1) }
@@ -123,19 +123,19 @@ module _ {page text page′ page″ : List ℕ} {at next i n : ℕ} (g : So page
   run-written : Written page at (escaped-text (take (i + n) text)) page″ (next + n)
   run-written =
       let e : take (length text - i) (drop i text) ≡ drop i text = take-all (length text - i) (drop i text) (omega (arith, length-drop i text)) in
-      rw (take-add i n text, escaped-append (take i text) (take n (drop i text))) (then (g .written) (rw e at (f .written)))
+      rw (take-add i n text, text-append escape (take i text) (take n (drop i text))) (then (g .written) (rw e at (f .written)))
 
   -- all is written if it is the last
   pub last-run : i + n ≡ length text → Written page at (escaped-text text) page″ (next + n)
-  last-run e = all text (i + n) run-written (omega arith)
+  last-run e = all escape text (i + n) run-written (omega arith)
 
   -- or the byte behind it, with its escape
   pub past-run : {page‴ : List ℕ} {r : ℕ} → (i + n ≡ length text → ⊥) → Written page″ (next + n) (escaped-byte (getD text (i + n) 0)) page‴ r
       → So page at text page‴ r (i + n + 1)
-  past-run ne w = record { within = omega (arith, in-text); written = more text (i + n) run-written (omega (arith, in-text)) w }
+  past-run ne w = record { within = omega (arith, in-text); written = more escape text (i + n) run-written (omega (arith, in-text)) w }
 
 pub none-so : {page text : List ℕ} {at : ℕ} → So page at text page at 0
-none-so = record { within = omega arith; written = none-yet }
+none-so = record { within = omega arith; written = none-yet escape }
 
 pub all-so : {page text page′ : List ℕ} {at next i : ℕ} → So page at text page′ next i → length text ≤ i → Written page at (escaped-text text) page′ next
-all-so {text = text} {i = i} g h = all text i (g .written) h
+all-so {text = text} {i = i} g h = all escape text i (g .written) h

@@ -2,3 +2,4 @@
 pub mod Any
 pub mod Coloured
 pub mod Runs
+pub mod Returns

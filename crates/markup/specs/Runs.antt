@@ -4,14 +4,17 @@ use mathlib.Core.List.{List, map}
 use Prim.Native.Nat.{ℕ, _+_, _≤_}
 use lib.ListN.{length, take}
 use Rattle.rules.specs.Answers.{itself}
-use Rattle.rules.specs.Html.{escape, items-html}
+use Rattle.rules.specs.Html.{Escape, escape, items-html}
 use Rattle.rules.specs.Lines.{char, copied}
 use Rattle.rules.specs.Plain.{fill}
 use Rattle.writing.specs.Written.{Written}
 
--- a text with its escapes
+-- a text with its escapes, by how a byte is written
+abbrev pub text-by : (ℕ → Escape) → List ℕ → List ℕ
+text-by look s = fill itself (items-html look (map (λ y. char (copied y)) s))
+
 abbrev pub escaped-text : List ℕ → List ℕ
-escaped-text s = fill itself (items-html escape (map (λ y. char (copied y)) s))
+escaped-text s = text-by escape s
 
 -- no byte is escaped
 pub record Plain (s : List ℕ) : Type 0 where

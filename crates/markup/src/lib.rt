@@ -2,4 +2,5 @@
 pub mod anchors;
 mod css;
 pub mod escapes;
+pub mod strict;
 pub mod tags;
