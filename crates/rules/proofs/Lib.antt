@@ -40,6 +40,8 @@ pub mod Words
 pub mod Runs
 pub mod Said
 pub mod Visible
+pub mod Everywhere
+pub mod StrictSame
 pub mod SameWords
 pub mod SoundFields
 pub mod ItemCosts
