@@ -1,6 +1,6 @@
 -- Every answer's number fits 64 bits and loses nothing: places and counts are at most a file's length, a page is shorter than 2^24 bytes, and refusals
 -- have numbers of 1 to 255.
-use Rattle.rules.proofs.Basics.{_≡_, refl, sym, subst, _∙_, ap, List, [], _∷_, none, some, Bool, true, false, ℕ, suc, _≤_, _^_, _<_, arith, leb, eqb, length, getD, leb-true}
+use Rattle.rules.proofs.Basics.{_≡_, refl, sym, subst, _∙_, ap, List, [], _∷_, none, some, Bool, true, false, inl, inr, ℕ, suc, _≤_, _^_, _<_, arith, leb, eqb, length, getD, leb-true}
 use mathlib.Core.Option.{Option}
 use Rattle.rules.specs.Limits.{most-bytes, most-columns}
 use Rattle.rules.specs.Bytes.{newline, if_then_else_}
@@ -10,10 +10,11 @@ use Rattle.rules.specs.Encode.{encode}
 use Rattle.rules.specs.Layout.{layout}
 use Rattle.rules.specs.Good.{Bytes}
 use Rattle.rules.specs.Plain.{fill}
-use Rattle.rules.specs.Answers.{itself, tree, check-answer, check-answer-by, laid-out-by, left-laid, layout-outcome, layout-outcome-by, written, left-page, coded, coded-outcome}
+use Rattle.rules.specs.Answers.{itself, tree, strict-tree, check-answer, strict-check-answer, check-answer-by, laid-out-by, left-laid, layout-outcome, layout-outcome-by, written, left-page, coded, coded-outcome}
 use Rattle.rules.specs.Alike.{Page, plain-page, html-body, html-document, strict-body, strict-document, outcome-of, tree-of, look-of, shown}
 use Rattle.rules.proofs.Files.{Read, tree-read}
-use Rattle.rules.proofs.Refused.{Refusable, too-long, at-fault, refused-place}
+use Rattle.rules.proofs.Refused.{Refusable, RefusableBy, StrictFault, too-long, at-fault, refused-place, strict-refused-place}
+use Rattle.rules.proofs.Strict.{loose-tree}
 use Rattle.rules.proofs.Unique.{Numbered}
 use Rattle.rules.proofs.Demand3.{by-kind}
 use Rattle.lengths.proofs.HtmlLengths.{page-short}
@@ -40,13 +41,27 @@ told-refused s n p e = go (refused-place s n p e)
     go (too-long x y l) = omega (arith, x, y)
     go (at-fault F l m) = omega (arith, F)
 
-pub told-check : (s : List ℕ) → Told (check-answer s)
-unfolding check-answer-by coded _>>=_
-told-check s = go (tree s) refl
+told-strict-refused : (s : List ℕ) (n p : ℕ) → strict-tree s ≡ refused n p → Told (refused n p)
+unfolding coded
+told-strict-refused s n p e = go (strict-refused-place s n p e)
   where
-    go : (x : Result (Frag ℕ)) → tree s ≡ x → Told (x >>= (λ t. accepted 0))
-    go (refused n p) e = told-refused s n p e
-    go (accepted t) e = omega arith
+    go : RefusableBy StrictFault s n p → Told (refused n p)
+    go (too-long x y l) = omega (arith, x, y)
+    go (at-fault (inl F) l m) = omega (arith, F)
+    go (at-fault (inr F) l m) = omega (arith, F)
+
+told-answer : (x : Result (Frag ℕ)) → ((n p : ℕ) → x ≡ refused n p → Told (refused n p)) → Told (x >>= (λ t. accepted 0))
+unfolding coded _>>=_
+told-answer (refused n p) h = h n p refl
+told-answer (accepted t) h = omega arith
+
+pub told-check : (s : List ℕ) → Told (check-answer s)
+unfolding check-answer-by
+told-check s = told-answer (tree s) (told-refused s)
+
+pub told-strict-check : (s : List ℕ) → Told (strict-check-answer s)
+unfolding check-answer-by
+told-strict-check s = told-answer (strict-tree s) (told-strict-refused s)
 
 pub told-layout : (w : ℕ) (s : List ℕ) → Told (layout-outcome w s .0)
 unfolding layout-outcome-by laid-out-by left-laid coded need _>>_ _>>=_
