@@ -123,17 +123,17 @@ module _ (t l : ℕ) {page : List ℕ} {at : ℕ} where
 -- ---- the waiting break, by its number
 
 module _ (n : ℕ) {page : List ℕ} {at : ℕ} where
-  pub no-break : (n / 131072) % 4 ≡ 0 → Written page at (waiting-bytes (machine-in n .waiting)) page at
+  pub no-break : (n / 262144) % 4 ≡ 0 → Written page at (waiting-bytes (machine-in n .waiting)) page at
   unfolding machine-in waiting-numbered waiting-bytes
   no-break e = rw e writing.nothing
 
-  pub a-break-space : {page′ : List ℕ} {r : ℕ} → (n / 131072) % 4 ≡ 1 → Written page at (32 ∷ []) page′ r → Written page at (waiting-bytes (machine-in n .waiting)) page′ r
+  pub a-break-space : {page′ : List ℕ} {r : ℕ} → (n / 262144) % 4 ≡ 1 → Written page at (32 ∷ []) page′ r → Written page at (waiting-bytes (machine-in n .waiting)) page′ r
   unfolding machine-in waiting-numbered waiting-bytes
   a-break-space e w = rw e w
 
-  pub a-break-newline : {page′ : List ℕ} {r : ℕ} → ((n / 131072) % 4 ≡ 0 → ⊥) → ((n / 131072) % 4 ≡ 1 → ⊥) → Written page at (10 ∷ []) page′ r → Written page at (waiting-bytes (machine-in n .waiting)) page′ r
+  pub a-break-newline : {page′ : List ℕ} {r : ℕ} → ((n / 262144) % 4 ≡ 0 → ⊥) → ((n / 262144) % 4 ≡ 1 → ⊥) → Written page at (10 ∷ []) page′ r → Written page at (waiting-bytes (machine-in n .waiting)) page′ r
   unfolding machine-in waiting-bytes
-  a-break-newline z o w = rw (← newline-said ((n / 131072) % 4) z o) w
+  a-break-newline z o w = rw (← newline-said ((n / 262144) % 4) z o) w
 
 -- ---- the line there
 
@@ -151,13 +151,13 @@ spaced-line t (suc zero) o = absurd (o refl)
 spaced-line t (suc (suc k)) o = refl
 
 module _ (n : ℕ) where
-  pub emptied : 1 < (n / 131072) % 4 → line-numbered 0 ≡ line-then (machine-in n)
+  pub emptied : 1 < (n / 262144) % 4 → line-numbered 0 ≡ line-then (machine-in n)
   unfolding machine-in line-numbered line-then release
-  emptied h = rw (← newline-said ((n / 131072) % 4) (λ z. omega (arith, z, h)) (λ o. omega (arith, o, h)))
+  emptied h = rw (← newline-said ((n / 262144) % 4) (λ z. omega (arith, z, h)) (λ o. omega (arith, o, h)))
 
-  pub as-it-was : (n / 131072) % 4 ≤ 1 → line-numbered (n / 524288) ≡ line-then (machine-in n)
+  pub as-it-was : (n / 262144) % 4 ≤ 1 → line-numbered (n / 1048576) ≡ line-then (machine-in n)
   unfolding machine-in line-then
-  as-it-was h = not-released ((n / 131072) % 4) h (line-numbered (n / 524288))
+  as-it-was h = not-released ((n / 262144) % 4) h (line-numbered (n / 1048576))
 
   module _ {l : ℕ} (e : line-numbered l ≡ line-then (machine-in n)) where
     pub has-its-text : l ≡ 1 → (line-numbered 1 ≡ line-ready (machine-in n)) × (1 < 4294967296)
@@ -174,17 +174,17 @@ unfolding ready-bytes machine-in
 both-ready n l w e w′ = writing.then w (rw e at w′)
 
 -- another line's number in its place
-pub placed : (n l : ℕ) → (machine-in (l * 524288 + n % 131072) ≡ on-line (machine-in n) (line-numbered l)) × (form-in (l * 524288 + n % 131072) ≡ form-in n)
+pub placed : (n l : ℕ) → (machine-in (l * 1048576 + n % 262144) ≡ on-line (machine-in n) (line-numbered l)) × (form-in (l * 1048576 + n % 262144) ≡ form-in n)
 unfolding machine-in form-in on-line waiting-numbered
 placed n l =
-    let n′ = l * 524288 + n % 131072 in
-    let line : n′ / 524288 ≡ l = omega arith in
-    let over-waiting : n′ / 131072 ≡ l * 4 = omega arith in
-    let waits : (n′ / 131072) % 4 ≡ 0 = rw over-waiting (omega arith) in
-    let low : n % 131072 ≡ (n / 65536) % 2 * 65536 + n % 65536 = omega arith in
+    let n′ = l * 1048576 + n % 262144 in
+    let line : n′ / 1048576 ≡ l = omega arith in
+    let over-waiting : n′ / 262144 ≡ l * 4 = omega arith in
+    let waits : (n′ / 262144) % 4 ≡ 0 = rw over-waiting (omega arith) in
+    let low : n % 262144 ≡ (n / 65536) % 4 * 65536 + n % 65536 = omega arith in
     let level : n′ % 65536 ≡ n % 65536 = omega (arith, low) in
-    let over-form : n′ / 65536 ≡ l * 8 + (n / 65536) % 2 = omega (arith, low) in
-    let f : (n′ / 65536) % 2 ≡ (n / 65536) % 2 = rw over-form (omega arith) in
+    let over-form : n′ / 65536 ≡ l * 16 + (n / 65536) % 4 = omega (arith, low) in
+    let f : (n′ / 65536) % 4 ≡ (n / 65536) % 4 = rw over-form (omega arith) in
     (λ j. record { level = level j; line = line-numbered (line j); waiting = waiting-numbered (waits j) }, ap form-numbered f)
 
 -- ---- a part without bytes

@@ -49,13 +49,13 @@ ignored-said level (suc (suc k)) o = go (leb k level) refl
     go false e = lt-leb (suc (suc k)) (level + 2) (omega (arith, leb-false k level e))
 
 module _ (n : ℕ) where
-  pub text-counts : n / 524288 ≡ 1 → false ≡ ignored (machine-in n .level) (machine-in n .line)
+  pub text-counts : n / 1048576 ≡ 1 → false ≡ ignored (machine-in n .level) (machine-in n .line)
   unfolding machine-in line-numbered ignored
   text-counts e = rw e
 
-  pub by-levels : (n / 524288 ≡ 1 → ⊥) → leb (n / 524288) (n % 65536 + 2) ≡ ignored (machine-in n .level) (machine-in n .line)
+  pub by-levels : (n / 1048576 ≡ 1 → ⊥) → leb (n / 1048576) (n % 65536 + 2) ≡ ignored (machine-in n .level) (machine-in n .line)
   unfolding machine-in
-  by-levels o = ignored-said (n % 65536) (n / 524288) o
+  by-levels o = ignored-said (n % 65536) (n / 1048576) o
 
   pub break-ignored : {b : rules.Break} → ignored (machine-in n .level) (machine-in n .line) ≡ true → Unseen (break b) n n
   unfolding step rules.broken
@@ -81,16 +81,16 @@ joined-less (suc zero) (suc (suc b)) h l = absurd (omega arith)
 joined-less (suc (suc w)) b h l = refl
 
 -- more on the waiting break's place
-more-waiting : (n d : ℕ) → (n + d * 131072) / 131072 ≡ n / 131072 + d
+more-waiting : (n d : ℕ) → (n + d * 262144) / 262144 ≡ n / 262144 + d
 more-waiting n d = omega arith
 
-more-form : (n d : ℕ) → ((n + d * 131072) / 65536 ≡ n / 65536 + 2 * d) × ((n + d * 131072) % 65536 ≡ n % 65536)
+more-form : (n d : ℕ) → ((n + d * 262144) / 65536 ≡ n / 65536 + 4 * d) × ((n + d * 262144) % 65536 ≡ n % 65536)
 more-form n d = (omega arith, omega arith)
 
 module _ (n b : ℕ) (counts : ignored (machine-in n .level) (machine-in n .line) ≡ false) where
   -- a number with the other parts of n
-  break-waits : (n′ : ℕ) → n′ % 65536 ≡ n % 65536 → n′ / 524288 ≡ n / 524288 → (n′ / 65536) % 2 ≡ (n / 65536) % 2
-      → waiting-numbered ((n′ / 131072) % 4) ≡ some (joined (waiting-numbered ((n / 131072) % 4)) (break-numbered b)) → Unseen (break (break-numbered b)) n n′
+  break-waits : (n′ : ℕ) → n′ % 65536 ≡ n % 65536 → n′ / 1048576 ≡ n / 1048576 → (n′ / 65536) % 4 ≡ (n / 65536) % 4
+      → waiting-numbered ((n′ / 262144) % 4) ≡ some (joined (waiting-numbered ((n / 262144) % 4)) (break-numbered b)) → Unseen (break (break-numbered b)) n n′
   unfolding step rules.broken machine-in form-in
   break-waits n′ i l f w =
       record {
@@ -98,30 +98,30 @@ module _ (n b : ℕ) (counts : ignored (machine-in n .level) (machine-in n .line
         form-kept = ap form-numbered f;
       }
 
-  pub break-more : b < 3 → (n / 131072) % 4 < b → Unseen (break (break-numbered b)) n (n + (b - (n / 131072) % 4) * 131072)
+  pub break-more : b < 3 → (n / 262144) % 4 < b → Unseen (break (break-numbered b)) n (n + (b - (n / 262144) % 4) * 262144)
   break-more h l =
-      let d = b - (n / 131072) % 4 in
-      let over : (n + d * 131072) / 131072 ≡ n / 131072 + d = more-waiting n d in
-      let w : ((n + d * 131072) / 131072) % 4 ≡ b = rw over (omega (arith, h, l)) in
-      let line : (n + d * 131072) / 524288 ≡ n / 524288 =
-      sym (div-div-eq-div-mul (n + d * 131072) 131072 4) ∙ rw over (omega (arith, h, l)) ∙ div-div-eq-div-mul n 131072 4 in
-      break-waits (n + d * 131072) (more-form n d .1) line (rw (more-form n d .0) (omega arith)) (ap waiting-numbered w ∙ joined-more ((n / 131072) % 4) b l h)
+      let d = b - (n / 262144) % 4 in
+      let over : (n + d * 262144) / 262144 ≡ n / 262144 + d = more-waiting n d in
+      let w : ((n + d * 262144) / 262144) % 4 ≡ b = rw over (omega (arith, h, l)) in
+      let line : (n + d * 262144) / 1048576 ≡ n / 1048576 =
+      sym (div-div-eq-div-mul (n + d * 262144) 262144 4) ∙ rw over (omega (arith, h, l)) ∙ div-div-eq-div-mul n 262144 4 in
+      break-waits (n + d * 262144) (more-form n d .1) line (rw (more-form n d .0) (omega arith)) (ap waiting-numbered w ∙ joined-more ((n / 262144) % 4) b l h)
 
-  pub break-less : 0 < b → b ≤ (n / 131072) % 4 → Unseen (break (break-numbered b)) n n
-  break-less z l = break-waits n refl refl refl (joined-less ((n / 131072) % 4) b l z)
+  pub break-less : 0 < b → b ≤ (n / 262144) % 4 → Unseen (break (break-numbered b)) n n
+  break-less z l = break-waits n refl refl refl (joined-less ((n / 262144) % 4) b l z)
 
 -- ---- an indent
 
 -- an operation that changes the level alone
 level-moved : (o : LineOp ℕ) (n n′ : ℕ) → n / 65536 ≡ n′ / 65536
-    → step (machine-in n) o ≡ ([], record { level = n′ % 65536; line = line-numbered (n / 524288); waiting = waiting-numbered ((n / 131072) % 4) }) → Unseen o n n′
+    → step (machine-in n) o ≡ ([], record { level = n′ % 65536; line = line-numbered (n / 1048576); waiting = waiting-numbered ((n / 262144) % 4) }) → Unseen o n n′
 unfolding machine-in form-in
 level-moved o n n′ e s =
-    let line : n / 524288 ≡ n′ / 524288 = sym (div-div-eq-div-mul n 65536 8) ∙ ap (λ (q : ℕ). q / 8) e ∙ div-div-eq-div-mul n′ 65536 8 in
-    let waits : n / 131072 ≡ n′ / 131072 = sym (div-div-eq-div-mul n 65536 2) ∙ ap (λ (q : ℕ). q / 2) e ∙ div-div-eq-div-mul n′ 65536 2 in
+    let line : n / 1048576 ≡ n′ / 1048576 = sym (div-div-eq-div-mul n 65536 16) ∙ ap (λ (q : ℕ). q / 16) e ∙ div-div-eq-div-mul n′ 65536 16 in
+    let waits : n / 262144 ≡ n′ / 262144 = sym (div-div-eq-div-mul n 65536 4) ∙ ap (λ (q : ℕ). q / 4) e ∙ div-div-eq-div-mul n′ 65536 4 in
     record {
       stepped = s ∙ (λ j. ([], record { level = n′ % 65536; line = line-numbered (line j); waiting = waiting-numbered (waits j % 4) }));
-      form-kept = ap (λ (q : ℕ). form-numbered (q % 2)) (sym e);
+      form-kept = ap (λ (q : ℕ). form-numbered (q % 4)) (sym e);
     }
 
 module _ (n : ℕ) where
@@ -129,10 +129,10 @@ module _ (n : ℕ) where
   unfolding step machine-in
   one-deeper h =
       let l : suc (n % 65536) ≡ (n + 1) % 65536 = omega (arith, h) in
-      level-moved indent n (n + 1) (omega (arith, h)) (λ j. ([], record { level = l j; line = line-numbered (n / 524288); waiting = waiting-numbered ((n / 131072) % 4) }))
+      level-moved indent n (n + 1) (omega (arith, h)) (λ j. ([], record { level = l j; line = line-numbered (n / 1048576); waiting = waiting-numbered ((n / 262144) % 4) }))
 
   pub one-less : 0 < machine-in n .level → Unseen unindent n (n - 1)
   unfolding step machine-in
   one-less h =
       let l : pred (n % 65536) ≡ (n - 1) % 65536 = sym (sub-one (n % 65536)) ∙ omega (arith, h) in
-      level-moved unindent n (n - 1) (omega (arith, h)) (λ j. ([], record { level = l j; line = line-numbered (n / 524288); waiting = waiting-numbered ((n / 131072) % 4) }))
+      level-moved unindent n (n - 1) (omega (arith, h)) (λ j. ([], record { level = l j; line = line-numbered (n / 1048576); waiting = waiting-numbered ((n / 262144) % 4) }))

@@ -2,7 +2,7 @@
 use Rattle.rules.proofs.Basics.{_≡_, refl, ap, subst, _∙_, List, [], _∷_, _++_, append-nil, Bool, ℕ}
 use Rattle.rules.specs.Lines.{Mark, open-anchor, close-anchor, Item, marked, making, step, run, after}
 use Rattle.rules.specs.Plain.{chars, fill}
-use Rattle.rules.specs.Html.{escape, mark-html, item-html, items-html}
+use Rattle.rules.specs.Html.{Escape, escape, strict-escape, mark-html, item-html, items-html}
 use Rattle.rules.specs.Answers.{itself}
 use Rattle.writing.specs.Written.{Written}
 use Rattle.writing.proofs.Laws as writing
@@ -35,9 +35,12 @@ shows-nothing O.the-variants.AppendToLine v n = absurd (n refl)
 shows-nothing O.the-variants.StartNewLine v n = writing.nothing
 shows-nothing (O.the-variants.BreakIfWithinLine b) v n = writing.nothing
 
-pub mark-shows-nothing : (op : O.LineOp) (v : List ℕ) {page : List ℕ} {at : ℕ} → IsMark op → Written page at (shown F.the-variants.Plain (own op v)) page at
+pub mark-no-text : (op : O.LineOp) → IsMark op → op ≡ O.the-variants.AppendToLine → ⊥
 unfolding IsMark
-mark-shows-nothing op v q = shows-nothing op v (λ e. subst IsMark e q)
+mark-no-text op q e = subst IsMark e q
+
+pub mark-shows-nothing : (op : O.LineOp) (v : List ℕ) {page : List ℕ} {at : ℕ} → IsMark op → Written page at (shown F.the-variants.Plain (own op v)) page at
+mark-shows-nothing op v q = shows-nothing op v (mark-no-text op q)
 
 -- ---- in HTML
 
@@ -55,6 +58,26 @@ unfolding own
 shows-both v d f g =
     rw (shown-append F.the-variants.Html (marked (open-anchor d v) ∷ []) (marked close-anchor ∷ []), html-mark (open-anchor d v), html-mark close-anchor) (writing.then f g)
 
+-- the tags of both modes are the same
+same-tags : (op : O.LineOp) (v : List ℕ) → (op ≡ O.the-variants.AppendToLine → ⊥) → html (own op v) ≡ shown F.the-variants.Strict (own op v)
+unfolding own shown items-html item-html
+same-tags O.the-variants.PushIndent v n = refl
+same-tags O.the-variants.PopIndent v n = refl
+same-tags O.the-variants.PushStyles v n = refl
+same-tags O.the-variants.PopStyles v n = refl
+same-tags (O.the-variants.PushAnchor d) v n = refl
+same-tags O.the-variants.PopAnchor v n = refl
+same-tags (O.the-variants.EmptyAnchor d) v n = refl
+same-tags O.the-variants.AppendToLine v n = absurd (n refl)
+same-tags O.the-variants.StartNewLine v n = refl
+same-tags (O.the-variants.BreakIfWithinLine b) v n = refl
+
+pub html-tags : (f : F.Form) (op : O.LineOp) (v : List ℕ) {page page′ : List ℕ} {at r : ℕ} → (f ≡ F.the-variants.Plain → ⊥) → (op ≡ O.the-variants.AppendToLine → ⊥)
+    → Written page at (html (own op v)) page′ r → Written page at (shown f (own op v)) page′ r
+html-tags F.the-variants.Plain op v n m w = absurd (n refl)
+html-tags F.the-variants.Html op v n m w = w
+html-tags F.the-variants.Strict op v n m w = rw (← same-tags op v m) w
+
 -- ---- one operation
 
 made-chars : (bs : List ℕ) → fill itself (chars (making bs)) ≡ bs
@@ -62,15 +85,16 @@ unfolding making chars fill
 made-chars [] = refl
 made-chars (b ∷ bs) = ap (λ (s : List ℕ). b ∷ s) (made-chars bs)
 
-made-html : (bs : List ℕ) → fill itself (items-html escape (making bs)) ≡ bs
+made-html : (look : ℕ → Escape) (bs : List ℕ) → fill itself (items-html look (making bs)) ≡ bs
 unfolding making items-html item-html fill
-made-html [] = refl
-made-html (b ∷ bs) = ap (λ (s : List ℕ). b ∷ s) (made-html bs)
+made-html look [] = refl
+made-html look (b ∷ bs) = ap (λ (s : List ℕ). b ∷ s) (made-html look bs)
 
 pub shown-making : (f : F.Form) (bs : List ℕ) → shown f (making bs) ≡ bs
 unfolding shown
 shown-making F.the-variants.Plain bs = made-chars bs
-shown-making F.the-variants.Html bs = made-html bs
+shown-making F.the-variants.Html bs = made-html escape bs
+shown-making F.the-variants.Strict bs = made-html strict-escape bs
 
 pub one-operation : (op : O.LineOp) (v : List ℕ) (m : M.Machine) (f : F.Form) {p p′ : Pen} {page page₁ page₂ : List ℕ} {b : ℕ} (s : Stepped) → machine-of m ≡ machine p → f ≡ form p
     → step-of s (own op v) ≡ step (machine-of m) (operation op v) → Written page (p .at) (before-bytes (s .before)) page₁ b → Written page₁ b (shown f (own op v)) page₂ (p′ .at)

@@ -19,10 +19,10 @@ within-line l = record { level = l; line = has-text; waiting = none }
 quiet-machine : (n : ℕ) → quiet n ≡ true → (machine-in n ≡ within-line (n % 65536)) × (form-in n ≡ F.the-variants.Plain)
 unfolding quiet machine-in form-in line-numbered waiting-numbered form-numbered
 quiet-machine n e =
-    let q : n / 65536 ≡ 8 = eqb→eq (n / 65536) 8 (rw e tt) in
-    let l : n / 524288 ≡ 1 = omega (arith, q) in
-    let w : (n / 131072) % 4 ≡ 0 = omega (arith, q) in
-    let f : (n / 65536) % 2 ≡ 0 = omega (arith, q) in
+    let q : n / 65536 ≡ 16 = eqb→eq (n / 65536) 16 (rw e tt) in
+    let l : n / 1048576 ≡ 1 = omega (arith, q) in
+    let w : (n / 262144) % 4 ≡ 0 = omega (arith, q) in
+    let f : (n / 65536) % 4 ≡ 0 = omega (arith, q) in
     (rw (l, w) refl, rw f refl)
 
 -- nothing stands before an item there
@@ -31,18 +31,18 @@ unfolding ready-bytes line-then release waiting-bytes line-bytes
 quiet-ready n e = rw (quiet-machine n e .0) writing.nothing
 
 -- a space that waits does
-pub space-ready : (n : ℕ) → eqb (n / 65536) 10 ≡ true → ready-bytes (machine-in n) ≡ 32 ∷ []
+pub space-ready : (n : ℕ) → eqb (n / 65536) 20 ≡ true → ready-bytes (machine-in n) ≡ 32 ∷ []
 unfolding machine-in line-numbered waiting-numbered ready-bytes line-then release waiting-bytes line-bytes
 space-ready n e =
-    let q : n / 65536 ≡ 10 = eqb→eq (n / 65536) 10 (rw e tt) in
-    let l : n / 524288 ≡ 1 = omega (arith, q) in
-    let w : (n / 131072) % 4 ≡ 1 = omega (arith, q) in
+    let q : n / 65536 ≡ 20 = eqb→eq (n / 65536) 20 (rw e tt) in
+    let l : n / 1048576 ≡ 1 = omega (arith, q) in
+    let w : (n / 262144) % 4 ≡ 1 = omega (arith, q) in
     rw (l, w) refl
 
 -- or a newline, where there is no indent
-pub newline-ready : (n : ℕ) → eqb n 786432 ≡ true → ready-bytes (machine-in n) ≡ 10 ∷ []
+pub newline-ready : (n : ℕ) → eqb n 1572864 ≡ true → ready-bytes (machine-in n) ≡ 10 ∷ []
 unfolding machine-in line-numbered waiting-numbered ready-bytes line-then release waiting-bytes line-bytes levels-bytes
-newline-ready n e = let q : n ≡ 786432 = eqb→eq n 786432 (rw e tt) in rw q refl
+newline-ready n e = let q : n ≡ 1572864 = eqb→eq n 1572864 (rw e tt) in rw q refl
 
 -- an operation that leaves the line as it is
 quiet-ran : (o : LineOp ℕ) (is : List (Item ℕ)) → ((l : ℕ) → step (within-line l) o ≡ (is, within-line l)) → {p p′ : Pen} {page page′ : List ℕ} → quiet (p .state) ≡ true

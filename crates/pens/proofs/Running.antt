@@ -4,7 +4,7 @@ use Prim.Native.Nat.{pred}
 use Rattle.rules.specs.Lines as rules
 use Rattle.rules.specs.Lines.{Machine, Out, Item, LineOp, step, run, after, item, ignored}
 use Rattle.rules.specs.Plain.{chars, fill}
-use Rattle.rules.specs.Html.{escape, item-html, items-html}
+use Rattle.rules.specs.Html.{Escape, escape, strict-escape, item-html, items-html}
 use Rattle.rules.specs.Answers.{itself}
 use Rattle.writing.proofs.Laws as writing
 use Rattle.markup.proofs.Fills.{fill-append}
@@ -18,17 +18,22 @@ use Rattle.rules.proofs.Runs.{chars-append, after-append, run-append, broken-le
 
 -- ---- what items show
 
-html-append : (xs ys : List (Item ℕ)) → items-html escape (xs ++ ys) ≡ items-html escape xs ++ items-html escape ys
-unfolding items-html
-html-append [] ys = refl
-html-append (x ∷ xs) ys =
-    ap (λ (os : List (Out ℕ)). item-html escape x ++ os) (html-append xs ys)
-    ∙ sym (append-assoc (item-html escape x) (items-html escape xs) (items-html escape ys))
+module _ (look : ℕ → Escape) where
+  html-append : (xs ys : List (Item ℕ)) → items-html look (xs ++ ys) ≡ items-html look xs ++ items-html look ys
+  unfolding items-html
+  html-append [] ys = refl
+  html-append (x ∷ xs) ys =
+      ap (λ (os : List (Out ℕ)). item-html look x ++ os) (html-append xs ys)
+      ∙ sym (append-assoc (item-html look x) (items-html look xs) (items-html look ys))
+
+  html-shown-append : (xs ys : List (Item ℕ)) → fill itself (items-html look (xs ++ ys)) ≡ fill itself (items-html look xs) ++ fill itself (items-html look ys)
+  html-shown-append xs ys = ap (fill itself) (html-append xs ys) ∙ fill-append (items-html look xs) (items-html look ys)
 
 pub shown-append : (f : F.Form) (xs ys : List (Item ℕ)) → shown f (xs ++ ys) ≡ shown f xs ++ shown f ys
 unfolding shown
 shown-append F.the-variants.Plain xs ys = chars-append xs ys
-shown-append F.the-variants.Html xs ys = ap (fill itself) (html-append xs ys) ∙ fill-append (items-html escape xs) (items-html escape ys)
+shown-append F.the-variants.Html xs ys = html-shown-append escape xs ys
+shown-append F.the-variants.Strict xs ys = html-shown-append strict-escape xs ys
 
 -- ---- operations in a row
 
@@ -50,6 +55,7 @@ pub shown-nothing : (f : F.Form) → shown f [] ≡ []
 unfolding shown chars items-html fill
 shown-nothing F.the-variants.Plain = refl
 shown-nothing F.the-variants.Html = refl
+shown-nothing F.the-variants.Strict = refl
 
 pub nothing : {p : Pen} {page : List ℕ} → Rendered [] p page p page
 unfolding after run

@@ -28,18 +28,19 @@ newline-said zero z o = absurd (z refl)
 newline-said (suc zero) z o = absurd (o refl)
 newline-said (suc (suc m)) z o = refl
 
-pub html-said : (m : ℕ) → (m ≡ 0 → ⊥) → F.the-variants.Html ≡ form-numbered m
+pub strict-said : (m : ℕ) → (m ≡ 0 → ⊥) → (m ≡ 1 → ⊥) → F.the-variants.Strict ≡ form-numbered m
 unfolding form-numbered
-html-said zero z = absurd (z refl)
-html-said (suc m) z = refl
+strict-said zero z o = absurd (z refl)
+strict-said (suc zero) z o = absurd (o refl)
+strict-said (suc (suc m)) z o = refl
 
-pub plain-said : (n : ℕ) → eqb ((n / 65536) % 2) 0 ≡ true → form-in n ≡ F.the-variants.Plain
+pub plain-said : (n : ℕ) → eqb ((n / 65536) % 4) 0 ≡ true → form-in n ≡ F.the-variants.Plain
 unfolding form-in form-numbered
-plain-said n e = ap form-numbered (eqb→eq ((n / 65536) % 2) 0 (rw e tt))
+plain-said n e = ap form-numbered (eqb→eq ((n / 65536) % 4) 0 (rw e tt))
 
 -- ---- put together
 
-pub indented-number : (l : L.LineState) {k : ℕ} → l ≡ L.the-variants.Indented k → Fits (line-of l) → (line-numbered (k + 2) ≡ line-of l) × (k + 2 < 2 ^ 45)
+pub indented-number : (l : L.LineState) {k : ℕ} → l ≡ L.the-variants.Indented k → Fits (line-of l) → (line-numbered (k + 2) ≡ line-of l) × (k + 2 < 2 ^ 44)
 unfolding line-of levels-of
 indented-number l {k} e h = (sym (indented-said (k + 2) (λ z. omega (arith, z)) (λ o. omega (arith, o)) refl) ∙ rw e refl, rw e at (h .fits))
 
@@ -47,24 +48,24 @@ indented-number l {k} e h = (sym (indented-said (k + 2) (λ z. omega (arith, z))
 over-form : {n q r : ℕ} → n ≡ q * 65536 + r → r < 65536 → (n / 65536 ≡ q) × (n % 65536 ≡ r)
 over-form e h = (omega (arith, e, h), omega (arith, e, h))
 
-over-waiting : {n q r : ℕ} → n ≡ q * 131072 + r → r < 131072 → n / 131072 ≡ q
+over-waiting : {n q r : ℕ} → n ≡ q * 262144 + r → r < 262144 → n / 262144 ≡ q
 over-waiting e h = omega (arith, e, h)
 
-over-line : {n q r : ℕ} → n ≡ q * 524288 + r → r < 524288 → n / 524288 ≡ q
+over-line : {n q r : ℕ} → n ≡ q * 1048576 + r → r < 1048576 → n / 1048576 ≡ q
 over-line e h = omega (arith, e, h)
 
-pub state-said : (m : M.Machine) (f : F.Form) {l w g : ℕ} → m .indent < 2 ^ 16 → (line-numbered l ≡ line-of (m .line)) × (l < 2 ^ 45) → (waiting-numbered w ≡ waiting-of (m .waiting)) × (w < 3)
-    → (form-numbered g ≡ f) × (g < 2) → {n : ℕ} → n ≡ l * 524288 + w * 131072 + g * 65536 + m .indent → (machine-in n ≡ machine-of m) × (form-in n ≡ f)
+pub state-said : (m : M.Machine) (f : F.Form) {l w g : ℕ} → m .indent < 2 ^ 16 → (line-numbered l ≡ line-of (m .line)) × (l < 2 ^ 44) → (waiting-numbered w ≡ waiting-of (m .waiting)) × (w < 3)
+    → (form-numbered g ≡ f) × (g < 3) → {n : ℕ} → n ≡ l * 1048576 + w * 262144 + g * 65536 + m .indent → (machine-in n ≡ machine-of m) × (form-in n ≡ f)
 unfolding machine-in machine-of form-in
 state-said m f {l} {w} {g} i a b c {n} e =
-    let low : g * 65536 + m .indent < 131072 = omega (arith, i, c .1) in
-    let mid : w * 131072 + (g * 65536 + m .indent) < 524288 = omega (arith, low, b .1) in
-    let at-indent : n % 65536 ≡ m .indent = over-form {n = n} {q = l * 8 + w * 2 + g} (omega (arith, e)) i .1 in
-    let at-form : (n / 65536) % 2 ≡ g = rw (over-form {n = n} {q = l * 8 + w * 2 + g} (omega (arith, e)) i .0) (omega (arith, c .1)) in
-    let at-waiting : (n / 131072) % 4 ≡ w = rw (over-waiting {n = n} {q = l * 4 + w} (omega (arith, e)) low) (omega (arith, b .1)) in
-    let at-line : n / 524288 ≡ l = over-line {n = n} {q = l} (omega (arith, e)) mid in
-    let lines : line-numbered (n / 524288) ≡ line-of (m .line) = ap line-numbered at-line ∙ a .0 in
-    let waits : waiting-numbered ((n / 131072) % 4) ≡ waiting-of (m .waiting) = ap waiting-numbered at-waiting ∙ b .0 in
+    let low : g * 65536 + m .indent < 262144 = omega (arith, i, c .1) in
+    let mid : w * 262144 + (g * 65536 + m .indent) < 1048576 = omega (arith, low, b .1) in
+    let at-indent : n % 65536 ≡ m .indent = over-form {n = n} {q = l * 16 + w * 4 + g} (omega (arith, e)) i .1 in
+    let at-form : (n / 65536) % 4 ≡ g = rw (over-form {n = n} {q = l * 16 + w * 4 + g} (omega (arith, e)) i .0) (omega (arith, c .1)) in
+    let at-waiting : (n / 262144) % 4 ≡ w = rw (over-waiting {n = n} {q = l * 4 + w} (omega (arith, e)) low) (omega (arith, b .1)) in
+    let at-line : n / 1048576 ≡ l = over-line {n = n} {q = l} (omega (arith, e)) mid in
+    let lines : line-numbered (n / 1048576) ≡ line-of (m .line) = ap line-numbered at-line ∙ a .0 in
+    let waits : waiting-numbered ((n / 262144) % 4) ≡ waiting-of (m .waiting) = ap waiting-numbered at-waiting ∙ b .0 in
     (λ j. record { level = at-indent j; line = lines j; waiting = waits j }, ap form-numbered at-form ∙ c .0)
 
 -- ---- a step's machine fits
@@ -77,11 +78,11 @@ levels-numbered (suc (suc k)) = omega arith
 
 -- ---- the machine taken out: its line fits into a number again
 
-pub machine-said : (n : ℕ) (l : L.LineState) (w : W.Waiting) → line-of l ≡ line-numbered (n / 524288) → waiting-of w ≡ waiting-numbered ((n / 131072) % 4)
+pub machine-said : (n : ℕ) (l : L.LineState) (w : W.Waiting) → line-of l ≡ line-numbered (n / 1048576) → waiting-of w ≡ waiting-numbered ((n / 262144) % 4)
     → n < 2 ^ 64 → (machine-of (record { indent = n % 65536; line = l; waiting = w }) ≡ machine-in n) × Fits (line-of l)
 unfolding machine-of machine-in
 machine-said n l w e f h =
-    (λ i. record { level = n % 65536; line = e i; waiting = f i }, record { fits = omega (arith, ap levels-of e, levels-numbered (n / 524288), h) })
+    (λ i. record { level = n % 65536; line = e i; waiting = f i }, record { fits = omega (arith, ap levels-of e, levels-numbered (n / 1048576), h) })
 
 spacing-low : (level : ℕ) (bare : Bool) (l : rules.Line) → levels-of (spacing {X = ℕ} level bare l .1) ≤ level
 unfolding spacing levels-of

@@ -70,7 +70,7 @@ leaves-empty : (v : List ℕ) → text-behind false v ≡ false → Leaves 0 v
 unfolding start machine-in form-in line-numbered waiting-numbered form-numbered line-at
 leaves-empty v e = (sym (as-it-stands false v .0 ∙ ap at-zero e), refl)
 
-leaves-text : (v : List ℕ) → text-behind false v ≡ true → Leaves 524288 v
+leaves-text : (v : List ℕ) → text-behind false v ≡ true → Leaves 1048576 v
 unfolding start machine-in form-in line-numbered waiting-numbered form-numbered line-at
 leaves-text v e = (sym (as-it-stands false v .0 ∙ ap at-zero e), refl)
 
@@ -92,7 +92,7 @@ module _ (v : List ℕ) (i : ℕ) (h : i + 1 ≡ length v) where
   unfolding newline
   ends-in-newline e = leaves-empty v (by-last false v i h ∙ ap not (eq-eqb _ _ e))
 
-  pub ends-in-text : (getD v i 0 ≡ 10 → ⊥) → Leaves 524288 v
+  pub ends-in-text : (getD v i 0 ≡ 10 → ⊥) → Leaves 1048576 v
   unfolding newline
   ends-in-text n = leaves-text v (by-last false v i h ∙ ap not (ne-eqb _ _ n))
 
@@ -101,8 +101,8 @@ module _ (v : List ℕ) (i : ℕ) (h : i + 1 ≡ length v) where
 margin-says : (n : ℕ) → at-margin n ≡ true → (machine-in n .level ≡ 0) × (form-in n ≡ F.the-variants.Plain)
 unfolding at-margin machine-in form-in form-numbered
 margin-says n e =
-    let q : n % 131072 ≡ 0 = eqb→eq (n % 131072) 0 (rw e tt) in
-    let f : (n / 65536) % 2 ≡ 0 = omega (arith, q) in
+    let q : n % 262144 ≡ 0 = eqb→eq (n % 262144) 0 (rw e tt) in
+    let f : (n / 65536) % 4 ≡ 0 = omega (arith, q) in
     (omega (arith, q), rw f refl)
 
 pub verbatim : (v : List ℕ) {p p′ : Pen} {page page₁ page′ : List ℕ} {b : ℕ} → at-margin (p .state) ≡ true → Written page (p .at) (10 ∷ []) page₁ b

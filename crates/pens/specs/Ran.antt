@@ -4,7 +4,7 @@ use mathlib.Core.List.{List, [], _∷_}
 use Prim.Native.Nat.{ℕ}
 use Rattle.rules.specs.Lines.{Machine, Item, run, after}
 use Rattle.rules.specs.Plain.{chars, fill}
-use Rattle.rules.specs.Html.{escape, items-html}
+use Rattle.rules.specs.Html.{escape, strict-escape, items-html}
 use Rattle.rules.specs.Answers.{itself}
 use Rattle.writing.specs.Written.{Written}
 use Rattle.lines.specs.Said.{operation}
@@ -19,6 +19,7 @@ use Rattle.pens.specs.declared.pen.Pen as Code
 unfoldable pub shown : F.Form → List (Item ℕ) → List ℕ
 shown F.the-variants.Plain is = fill itself (chars is)
 shown F.the-variants.Html is = fill itself (items-html escape is)
+shown F.the-variants.Strict is = fill itself (items-html strict-escape is)
 
 abbrev pub machine : Code.Pen → Machine
 machine p = machine-in (p .state)

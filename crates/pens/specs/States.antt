@@ -28,22 +28,23 @@ break-numbered (suc (suc k)) = rules.a-newline
 
 unfoldable pub form-numbered : ℕ → F.Form
 form-numbered zero = F.the-variants.Plain
-form-numbered (suc k) = F.the-variants.Html
+form-numbered (suc zero) = F.the-variants.Html
+form-numbered (suc (suc k)) = F.the-variants.Strict
 
 -- the indent below 2 ^ 16, then the form, the waiting break, the line
 unfoldable pub machine-in : ℕ → rules.Machine
-machine-in n = record { level = n % 65536; line = line-numbered (n / 524288); waiting = waiting-numbered ((n / 131072) % 4) }
+machine-in n = record { level = n % 65536; line = line-numbered (n / 1048576); waiting = waiting-numbered ((n / 262144) % 4) }
 
 unfoldable pub form-in : ℕ → F.Form
-form-in n = form-numbered ((n / 65536) % 2)
+form-in n = form-numbered ((n / 65536) % 4)
 
 -- a plain page, a line with text, and no break that waits: nothing shows of a mark, nor stands before it
 unfoldable pub quiet : ℕ → Bool
-quiet n = eqb (n / 65536) 8
+quiet n = eqb (n / 65536) 16
 
 -- a plain page, and no indent
 unfoldable pub at-margin : ℕ → Bool
-at-margin n = eqb (n % 131072) 0
+at-margin n = eqb (n % 262144) 0
 
 -- the levels of a line that has no text yet
 unfoldable pub levels-of : rules.Line → ℕ
@@ -53,7 +54,7 @@ levels-of rules.has-text = 0
 
 -- a line that a number has room for
 pub record Fits (l : rules.Line) : Type 0 where
-  pub fits : levels-of l + 2 < 2 ^ 45
+  pub fits : levels-of l + 2 < 2 ^ 44
 
 -- an operation of which nothing shows leaves n′ of n
 pub record Unseen (o : rules.LineOp ℕ) (n n′ : ℕ) : Type 0 where

@@ -18,6 +18,7 @@ use lines::step;
 use markup::anchors::put_close_anchor;
 use markup::anchors::put_open_anchor;
 use markup::escapes::put_escaped;
+use markup::strict::put_strict;
 use markup::tags::put_close_tag;
 use markup::tags::put_open_tag;
 use styles::read_styles;
@@ -72,16 +73,6 @@ fn put_before(page: &mut [u8], at: usize, b: Before) -> usize
     put_spaces(page, line, b.spaces)
 }
 
-// What an operation itself shows on a plain page: a part's bytes.
-fn put_plain(page: &mut [u8], at: usize, op: LineOp, text: &[u8]) -> usize
-    ensures { λ r. ⌜ Written (now (page .entry)) at (shown Form.Plain (own op (now (text .entry)))) (now (page .exit)) r ⌝ }
-{
-    let LineOp::AppendToLine = op else {
-        return at;
-    };
-    put_bytes(page, at, text)
-}
-
 // An anchor around nothing.
 fn put_empty_anchor(page: &mut [u8], at: usize, is_def: bool, name: &[u8]) -> usize
     ensures { λ r. ⌜ Written (now (page .entry)) at (shown Form.Html (own (LineOp.EmptyAnchor «is_def») (now (name .entry)))) (now (page .exit)) r ⌝ }
@@ -90,8 +81,9 @@ fn put_empty_anchor(page: &mut [u8], at: usize, is_def: bool, name: &[u8]) -> us
     put_close_anchor(page, opened)
 }
 
-// In HTML: a part escaped, or the tags of a mark.
+// In HTML: the tags of a mark. Both modes have the same.
 fn put_html(page: &mut [u8], at: usize, op: LineOp, text: &[u8]) -> usize
+    requires { ⌜ (op ≡ LineOp.AppendToLine → ⊥) ⌝ }
     ensures { λ r. ⌜ Written (now (page .entry)) at (shown Form.Html (own op (now (text .entry)))) (now (page .exit)) r ⌝ }
 {
     match op {
@@ -102,19 +94,42 @@ fn put_html(page: &mut [u8], at: usize, op: LineOp, text: &[u8]) -> usize
         LineOp::PushAnchor { is_def } => put_open_anchor(page, at, is_def, text),
         LineOp::PopAnchor => put_close_anchor(page, at),
         LineOp::EmptyAnchor { is_def } => put_empty_anchor(page, at, is_def, text),
-        LineOp::AppendToLine => put_escaped(page, at, text),
+        LineOp::AppendToLine => at,
         LineOp::StartNewLine => at,
         LineOp::BreakIfWithinLine(b) => at,
     }
 }
 
+// A mark's tags, of which nothing shows on a plain page.
+fn put_mark(page: &mut [u8], at: usize, form: Form, op: LineOp, text: &[u8]) -> usize
+    requires { ⌜ (op ≡ LineOp.AppendToLine → ⊥) ⌝ }
+    ensures { λ r. ⌜ Written (now (page .entry)) at (shown form (own op (now (text .entry)))) (now (page .exit)) r ⌝ }
+{
+    let Form::Plain = form else {
+        return put_html(page, at, op, text);
+    };
+    at
+}
+
+// A part's bytes: as they are, or escaped.
+fn put_part(page: &mut [u8], at: usize, form: Form, text: &[u8]) -> usize
+    ensures { λ r. ⌜ Written (now (page .entry)) at (shown form (copies (now (text .entry)))) (now (page .exit)) r ⌝ }
+{
+    match form {
+        Form::Plain => put_bytes(page, at, text),
+        Form::Html => put_escaped(page, at, text),
+        Form::Strict => put_strict(page, at, text),
+    }
+}
+
+// What an operation itself shows.
 fn put_own(page: &mut [u8], at: usize, form: Form, op: LineOp, text: &[u8]) -> usize
     ensures { λ r. ⌜ Written (now (page .entry)) at (shown form (own op (now (text .entry)))) (now (page .exit)) r ⌝ }
 {
-    match form {
-        Form::Plain => put_plain(page, at, op, text),
-        Form::Html => put_html(page, at, op, text),
-    }
+    let LineOp::AppendToLine = op else {
+        return put_mark(page, at, form, op, text);
+    };
+    put_part(page, at, form, text)
 }
 
 // One operation; the bytes it is about stand beside it.
@@ -131,27 +146,6 @@ pub fn interpret(page: &mut [u8], pen: Pen, op: LineOp, text: &[u8]) -> Pen
     Pen {
         at,
         state: state_of(machine, form),
-    }
-}
-
-// A part's bytes: as they are, or escaped.
-fn put_part(page: &mut [u8], at: usize, form: Form, text: &[u8]) -> usize
-    ensures { λ r. ⌜ Written (now (page .entry)) at (shown form (copies (now (text .entry)))) (now (page .exit)) r ⌝ }
-{
-    match form {
-        Form::Plain => put_bytes(page, at, text),
-        Form::Html => put_escaped(page, at, text),
-    }
-}
-
-// A mark's tags, of which nothing shows on a plain page.
-fn put_mark(page: &mut [u8], at: usize, form: Form, op: LineOp, text: &[u8]) -> usize
-    requires { ⌜ IsMark op ⌝ }
-    ensures { λ r. ⌜ Written (now (page .entry)) at (shown form (own op (now (text .entry)))) (now (page .exit)) r ⌝ }
-{
-    match form {
-        Form::Plain => at,
-        Form::Html => put_html(page, at, op, text),
     }
 }
 

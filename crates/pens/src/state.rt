@@ -17,18 +17,19 @@ pub const SPACE: usize = 1;
 
 pub const NEWLINE: usize = 2;
 
-// How items are shown: texts alone, or texts escaped and marks as tags.
+// How items are shown: texts alone, or texts escaped and marks as tags; in strict mode a CR is escaped too.
 pub enum Form {
     Plain,
     Html,
+    Strict,
 }
 
 // The weights of the parts: below the first stands the indent, above the last the line.
 pub const FORM: usize = 0x1_0000;
 
-pub const WAITING: usize = 0x2_0000;
+pub const WAITING: usize = 0x4_0000;
 
-pub const LINE: usize = 0x8_0000;
+pub const LINE: usize = 0x10_0000;
 
 // The numbers of an empty line and of one with text.
 pub const EMPTY: usize = 0;
@@ -72,22 +73,26 @@ pub fn machine_in(state: usize) -> Machine
 pub fn form_in(state: usize) -> Form
     ensures { λ r. ⌜ r ≡ form-in state ⌝ }
 {
-    if state / FORM % 2 == 0 {
+    let form = state / FORM % 4;
+    if form == 0 {
         return Form::Plain;
     }
-    Form::Html
+    if form == 1 {
+        return Form::Html;
+    }
+    Form::Strict
 }
 
 // The form is the plain one.
 pub fn is_plain(state: usize) -> bool
     ensures { λ r. ⌜ (r ≡ true → form-in state ≡ Form.Plain) ⌝ }
 {
-    state / FORM % 2 == 0
+    state / FORM % 4 == 0
 }
 
 fn line_number(line: LineState) -> usize
     requires { ⌜ Fits (line-of line) ⌝ }
-    ensures { λ r. ⌜ (line-numbered r ≡ line-of line) × (r < 2 ^ 45) ⌝ }
+    ensures { λ r. ⌜ (line-numbered r ≡ line-of line) × (r < 2 ^ 44) ⌝ }
 {
     match line {
         LineState::Empty => 0,
@@ -107,11 +112,12 @@ fn waiting_number(waiting: Waiting) -> usize
 }
 
 fn form_number(form: Form) -> usize
-    ensures { λ r. ⌜ (form-numbered r ≡ form) × (r < 2) ⌝ }
+    ensures { λ r. ⌜ (form-numbered r ≡ form) × (r < 3) ⌝ }
 {
     match form {
         Form::Plain => 0,
         Form::Html => 1,
+        Form::Strict => 2,
     }
 }
 

@@ -7,6 +7,7 @@ use Rattle.pens.proofs.pen.put_part.Statement.{statement}
 use Rattle.pens.proofs.pen.put_part.Tie as tie
 
 pub put-part-spec : {M : Type 1} → statement M
-put-part-spec = tie.close (tie.spec (λ c. search needs) (λ c κs. search needs) (λ c. search needs) (λ c κs. search needs) (λ c. search needs)
+put-part-spec = tie.close (tie.spec (λ c. search needs) (λ c κs. search needs) (λ c. search needs) (λ c κs. search needs) (λ c. search needs) (λ c κs. search needs) (λ c. search needs)
     (λ c. rw (c .before .before .before .before .enum-told .given .1, shown-copies) (c .before .before .put-bytes .ensures)) (λ c. search needs)
-    (λ c. unfold shown copies in rw (c .before .before .before .before .enum-told2 .given .1) (c .before .before .put-escaped .ensures)))
+    (λ c. unfold shown copies in rw (c .before .before .before .before .enum-told2 .given .1) (c .before .before .put-escaped .ensures)) (λ c. search needs)
+    (λ c. unfold shown copies in rw (c .before .before .before .before .enum-told3 .given .1) (c .before .before .put-strict .ensures)))

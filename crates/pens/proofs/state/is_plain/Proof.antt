@@ -1,4 +1,4 @@
--- `pages::state::is_plain` meets its contract: the bit says the form.
+-- `pages::state::is_plain` meets its contract: its two bits say the form.
 use Rattle.pens.proofs.StateLaws.{plain-said}
 use Rattle.pens.proofs.state.is_plain.Statement.{statement}
 use Rattle.pens.proofs.state.is_plain.Tie as tie
