@@ -3,6 +3,7 @@ pub mod Basics
 pub mod Open
 pub mod MaskExample
 pub mod WordsExample
+pub mod ReadBackExample
 pub mod Examples
 pub mod Chains
 pub mod Fuel
@@ -42,6 +43,10 @@ pub mod Said
 pub mod Visible
 pub mod Everywhere
 pub mod StrictSame
+pub mod Fills
+pub mod Readings
+pub mod QuietTags
+pub mod ReadBack
 pub mod SameWords
 pub mod SoundFields
 pub mod ItemCosts

@@ -20,6 +20,7 @@ use Rattle.rules.specs.Answers.{tree, strict-tree, changed, left-laid, w
 use Rattle.rules.specs.Mask.{in-texts, accepted-texts, text-places, mask-byte, mask-bytes, mask}
 use Rattle.rules.specs.Alike.{places, place-tree, page-list}
 use Rattle.rules.specs.SameWords.{white, white-item, without, words, visible, marks, accepted-fields, file-fields, texts, without-7, page-items}
+use Rattle.rules.specs.ReadBack.{same-bytes, referred, onward, shows, shown-from, ending}
 use Rattle.rules.specs.Cases.{nibble, paired, still, pairs, unhex, print-at, answer, case, writes, leaves, nested, call, examples}
 use Rattle.rules.specs.Refusals.{answers, no, no-bytes, inside-blocks, refusals}
 
@@ -38,6 +39,6 @@ unfolding
     scope scoped lines style-element before-body after-body document
     tree strict-tree changed left-laid written left-page check-answer-by laid-out-by layout-outcome-by plain-text-by body-text-by document-text-by plain-outcome-by body-outcome-by document-outcome-by
     in-texts accepted-texts text-places mask-byte mask-bytes mask places place-tree page-list
-    white white-item without words visible marks accepted-fields file-fields texts without-7 page-items
+    white white-item without words visible marks accepted-fields file-fields texts without-7 page-items same-bytes referred onward shows shown-from ending
     nibble paired still pairs unhex print-at answer case writes leaves nested call examples answers no no-bytes inside-blocks refusals
 all-open = 0

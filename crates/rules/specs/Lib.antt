@@ -22,5 +22,6 @@ pub mod Earlier
 pub mod Mask
 pub mod Alike
 pub mod SameWords
+pub mod ReadBack
 pub mod Cases
 pub mod Refusals
