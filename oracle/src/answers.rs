@@ -1,7 +1,8 @@
 //! What is right: the answer to a request and each lent byte afterwards.
 
-use crate::check::{check, Refusal};
+use crate::check::{check, strict_check, Refusal};
 use crate::original;
+use crate::strict;
 use crate::tags::LARGEST_WIDTH;
 use crate::words::MOST_TIMES;
 
@@ -19,15 +20,21 @@ pub enum Operation {
     Plain,
     Body,
     Document,
+    CheckStrict,
+    BodyStrict,
+    DocumentStrict,
 }
 
 impl Operation {
-    pub const ALL: [Self; 5] = [
+    pub const ALL: [Self; 8] = [
         Self::Check,
         Self::Layout,
         Self::Plain,
         Self::Body,
         Self::Document,
+        Self::CheckStrict,
+        Self::BodyStrict,
+        Self::DocumentStrict,
     ];
 
     pub fn name(self) -> &'static str {
@@ -37,6 +44,9 @@ impl Operation {
             Self::Plain => "plain",
             Self::Body => "body",
             Self::Document => "document",
+            Self::CheckStrict => "check-strict",
+            Self::BodyStrict => "body-strict",
+            Self::DocumentStrict => "document-strict",
         }
     }
 
@@ -47,16 +57,40 @@ impl Operation {
     /// In the order of [`original::pages`].
     pub const PAGES: [Self; 3] = [Self::Plain, Self::Body, Self::Document];
 
+    /// In the order of [`strict::pages`].
+    pub const STRICT_PAGES: [Self; 2] = [Self::BodyStrict, Self::DocumentStrict];
+
     pub fn is_page(self) -> bool {
-        Self::PAGES.contains(&self)
+        Self::PAGES.contains(&self) || Self::STRICT_PAGES.contains(&self)
+    }
+
+    /// The same in strict mode, of a page that has it.
+    pub fn made_strict(self) -> Option<Self> {
+        match self {
+            Self::Body => Some(Self::BodyStrict),
+            Self::Document => Some(Self::DocumentStrict),
+            _ => None,
+        }
+    }
+
+    pub fn is_check(self) -> bool {
+        matches!(self, Self::Check | Self::CheckStrict)
+    }
+
+    /// What the operation's walk says of a file.
+    pub fn walk(self, file: &[u8]) -> Result<(), Refusal> {
+        match self {
+            Self::CheckStrict | Self::BodyStrict | Self::DocumentStrict => strict_check(file),
+            _ => check(file),
+        }
     }
 
     /// The most bytes that such a page of a file of so many bytes can have.
     pub fn most_bytes(self, length: usize) -> usize {
         match self {
-            Self::Check | Self::Layout => 0,
+            Self::Check | Self::Layout | Self::CheckStrict => 0,
             Self::Plain => MOST_TIMES * length,
-            Self::Body | Self::Document => HTML_TIMES * length + HTML_FRAME,
+            _ => HTML_TIMES * length + HTML_FRAME,
         }
     }
 }
@@ -171,7 +205,7 @@ impl<'a> Asked<'a> {
     /// How many bytes are lent to be written.
     pub fn lent(self) -> usize {
         match self.operation {
-            Operation::Check => 0,
+            Operation::Check | Operation::CheckStrict => 0,
             Operation::Layout => self.file.len(),
             _ => self.room,
         }
@@ -212,9 +246,11 @@ type Checked = Result<(), Refusal>;
 
 /// What is right for a request.
 pub fn answer(request: &Request) -> Outcome {
-    let file = &request.file;
-    match request.operation {
-        Operation::Check => check_right(check(file)).to_outcome(0),
+    let (file, operation) = (&request.file, request.operation);
+    match operation {
+        Operation::Check | Operation::CheckStrict => {
+            check_right(operation.walk(file)).to_outcome(0)
+        }
         Operation::Layout => layout_outcome(file, check(file), request.width),
         page => page_outcome(&rendered(page, file), request.room),
     }
@@ -259,12 +295,16 @@ fn layout_check(walked: Checked, width: u16) -> Checked {
 
 /// The whole page of a file, or why there is none.
 pub fn rendered(page: Operation, file: &[u8]) -> Result<Vec<u8>, Refusal> {
-    check(file)?;
+    page.walk(file)?;
     Ok(match page {
         Operation::Plain => original::plain(file),
         Operation::Body => original::body(file),
         Operation::Document => original::document(file),
-        Operation::Check | Operation::Layout => unreachable!("{page:?} has no page"),
+        Operation::BodyStrict => strict::body(file),
+        Operation::DocumentStrict => strict::document(file),
+        Operation::Check | Operation::Layout | Operation::CheckStrict => {
+            unreachable!("{page:?} has no page")
+        }
     })
 }
 

@@ -13,10 +13,19 @@ type Checked = Result<(), Refusal>;
 
 /// Answers refusal 1 and the walk; 2 and 10 belong to layout and to pages.
 pub fn check(file: &[u8]) -> Checked {
+    walked(file, false)
+}
+
+/// The same in strict mode (request E6), which refuses a NUL in a text.
+pub fn strict_check(file: &[u8]) -> Checked {
+    walked(file, true)
+}
+
+fn walked(file: &[u8], strict: bool) -> Checked {
     if file.len() > LONGEST_FILE {
         return refuse(1, 0);
     }
-    let walk = Walk { file };
+    let walk = Walk { file, strict };
     walk.nodes(0, file.len(), 0)
 }
 
@@ -43,6 +52,7 @@ struct Found {
 
 struct Walk<'a> {
     file: &'a [u8],
+    strict: bool,
 }
 
 impl Walk<'_> {
@@ -84,7 +94,7 @@ impl Walk<'_> {
             TEXT => self.text(node),
             ANCHOR => self.anchor(node),
             INDENTED_BLOCK | INLINE_OR_INDENTED_BLOCK => self.block(node, blocks),
-            IF_BLOCK_LAYOUT => self.utf8(node),
+            IF_BLOCK_LAYOUT => self.text_bytes(node),
             _ => Ok(()),
         }
     }
@@ -110,7 +120,7 @@ impl Walk<'_> {
             need(part.end < text.end, 5, text.place)?;
             part = self.field(part.end, text.end, &[TEXT_BYTES])?;
         }
-        self.utf8(part)?;
+        self.text_bytes(part)?;
         self.nothing_more(part.end, text.end)
     }
 
@@ -136,6 +146,13 @@ impl Walk<'_> {
             place = run.end;
         }
         Ok(())
+    }
+
+    /// A 17 or 7: UTF-8, and then in strict mode no NUL. Names of anchors may have one in either mode.
+    fn text_bytes(&self, field: Found) -> Checked {
+        self.utf8(field)?;
+        let has_nul = self.file[field.start..field.end].contains(&0);
+        need(!(self.strict && has_nul), 14, field.place)
     }
 
     /// The standard library's UTF-8 is that of RFC 3629.

@@ -4,7 +4,7 @@ mod pairing;
 mod writing;
 
 use crate::answers::{answer, rendered, Answer, Operation, Request};
-use crate::check::check;
+use crate::check::{check, strict_check, Refusal};
 use crate::compare::{self, Disagreement, Stop, Tally};
 use crate::damage::every;
 use crate::examples;
@@ -34,7 +34,8 @@ oracle COMMAND: the Rust original's answers for fragment files
 
   examples                     checks the judge by the examples of document 01
   ask OP [--width W] [--room N] FILE
-                               OP is check, layout, plain, body or document;
+                               OP is check, layout, plain, body, document,
+                               check-strict, body-strict or document-strict;
                                prints `accepted`, the raw file or the raw page,
                                or `refused N at P`
   print [--width W] DIR OUT    prints every *.fragment file below DIR to OUT, as
@@ -46,7 +47,8 @@ oracle COMMAND: the Rust original's answers for fragment files
   record DIR                   writes the recorded answers
   lines [--of WHAT] [--seed S] [--files N]
                                prints files in hex with the check's answer, or
-                               where WHAT is `mask` with the mask
+                               where WHAT is `check-strict` that of strict mode,
+                               where it is `mask` with the mask
   compare --subject WHAT [--parts P,P] [--seed S] [--files N | --seconds N]
                                WHAT is `self`, `library` (the proved library,
                                where it is linked to this program) or a command
@@ -163,7 +165,7 @@ fn run_ask(options: &Options) -> Result<ExitCode, Mistake> {
     });
     match said.answer {
         Answer::Accepted(count) if operation.is_page() => print(&said.lent[..count]),
-        Answer::Accepted(_) if operation == Operation::Check => print(b"accepted\n"),
+        Answer::Accepted(_) if operation.is_check() => print(b"accepted\n"),
         Answer::Accepted(_) => print(&said.lent),
         refused => {
             println!("{}", wire::answer_words(refused));
@@ -230,7 +232,8 @@ fn seed(options: &Options) -> Result<u64, Mistake> {
 fn run_lines(options: &Options) -> Result<ExitCode, Mistake> {
     let [] = options.words()?;
     let said_of = match options.text("of") {
-        None | Some("check") => checked_words,
+        None | Some("check") => |file: &[u8]| checked_words(check(file)),
+        Some("check-strict") => |file: &[u8]| checked_words(strict_check(file)),
         Some("mask") => mask_words,
         Some(other) => return Err(format!("no lines of {other}")),
     };
@@ -248,8 +251,8 @@ fn run_lines(options: &Options) -> Result<ExitCode, Mistake> {
     Ok(ExitCode::SUCCESS)
 }
 
-fn checked_words(file: &[u8]) -> String {
-    match check(file) {
+fn checked_words(checked: Result<(), Refusal>) -> String {
+    match checked {
         Ok(()) => "accepted".into(),
         Err(refusal) => wire::answer_words(refusal.into()),
     }

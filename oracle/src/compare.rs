@@ -1,7 +1,7 @@
 //! Compares a subject with the judge over random files, and makes the first disagreement small.
 
 use crate::answers::{self, Asked, Operation, Outcome, Request, Right};
-use crate::check::{check, Refusal};
+use crate::check::{check, strict_check, Refusal};
 use crate::damage::{self, every};
 use crate::extent::Extent;
 use crate::field;
@@ -10,6 +10,7 @@ use crate::hex::hex;
 use crate::original;
 use crate::random::Random;
 use crate::shrink::shrink;
+use crate::strict;
 use crate::subject::{self, Said, Subject};
 use crate::wire;
 
@@ -115,9 +116,7 @@ impl Run<'_> {
         parts: &[Operation],
     ) -> Result<(), Stop> {
         let checked = check(file);
-        if parts.contains(&Operation::Check) {
-            self.ask(Asked::check(file), answers::check_right(checked))?;
-        }
+        self.ask_checks(file, checked, parts)?;
         let width = generate::width(random, file.len());
         let laid_out = answers::layout_outcome(file, checked, width);
         if parts.contains(&Operation::Layout) {
@@ -135,12 +134,26 @@ impl Run<'_> {
         } else {
             file
         };
-        if parts.iter().any(|part| part.is_page()) {
-            let pages = checked.map(|()| original::pages(shown));
-            self.ask_pages(random, shown, &pages, parts)?;
-        }
+        self.ask_pages(random, shown, checked, parts)?;
         self.tally.files += 1;
         self.tally.accepted += u64::from(checked.is_ok());
+        Ok(())
+    }
+
+    /// The check and the strict one.
+    fn ask_checks(
+        &mut self,
+        file: &[u8],
+        checked: Result<(), Refusal>,
+        parts: &[Operation],
+    ) -> Result<(), Stop> {
+        if parts.contains(&Operation::Check) {
+            self.ask(Asked::check(file), answers::check_right(checked))?;
+        }
+        if parts.contains(&Operation::CheckStrict) {
+            let asked = Asked::page(Operation::CheckStrict, 0, file);
+            self.ask(asked, answers::check_right(strict_check(file)))?;
+        }
         Ok(())
     }
 
@@ -155,15 +168,41 @@ impl Run<'_> {
         self.ask(Asked::layout(width, file), laid_out.right())
     }
 
-    /// Each page in several rooms.
+    /// All pages, of the file that the check has spoken of.
     fn ask_pages(
         &mut self,
         random: &mut Random,
         file: &[u8],
-        pages: &Result<[Vec<u8>; 3], Refusal>,
+        checked: Result<(), Refusal>,
         parts: &[Operation],
     ) -> Result<(), Stop> {
-        for (index, operation) in Operation::PAGES.into_iter().enumerate() {
+        if !parts.iter().any(|part| part.is_page()) {
+            return Ok(());
+        }
+        let pages = checked.map(|()| original::pages(file));
+        self.ask_in_rooms(random, file, &Operation::PAGES, &pages, parts)?;
+        if !Operation::STRICT_PAGES.iter().any(|p| parts.contains(p)) {
+            return Ok(());
+        }
+        let strict = strict_check(file).map(|()| {
+            let pages = pages
+                .as_ref()
+                .expect("what strict mode accepts is accepted");
+            strict::pages(file, pages)
+        });
+        self.ask_in_rooms(random, file, &Operation::STRICT_PAGES, &strict, parts)
+    }
+
+    /// Each of some pages in several rooms.
+    fn ask_in_rooms<const N: usize>(
+        &mut self,
+        random: &mut Random,
+        file: &[u8],
+        operations: &[Operation; N],
+        pages: &Result<[Vec<u8>; N], Refusal>,
+        parts: &[Operation],
+    ) -> Result<(), Stop> {
+        for (index, operation) in operations.iter().copied().enumerate() {
             if !parts.contains(&operation) {
                 continue;
             }

@@ -44,6 +44,9 @@ pub fn file(random: &mut Random) -> Vec<u8> {
     for _ in 0..random.pick(&[1, 1, 1, 2, 3]) {
         damage_fields(random, &mut fields);
     }
+    if random.one_in(6) {
+        nul_and_broken(random, &mut fields);
+    }
     let mut file = field::encode(&fields);
     if random.one_in(3) {
         damage_bytes(random, &mut file);
@@ -124,6 +127,18 @@ fn broken_text(random: &mut Random, fields: &mut Vec<Field>) {
     edit_tagged(random, fields, &texts, |random, list, index| {
         let bytes = random.pick(&NOT_UTF8);
         insert(random, &mut list[index], bytes);
+    });
+}
+
+/// A NUL in a text, and mostly something that is no UTF-8 before it or behind it: strict mode has two faults at one field.
+fn nul_and_broken(random: &mut Random, fields: &mut Vec<Field>) {
+    let texts = [TEXT_BYTES, IF_BLOCK_LAYOUT];
+    edit_tagged(random, fields, &texts, |random, list, index| {
+        insert(random, &mut list[index], b"\0");
+        if !random.one_in(3) {
+            let bytes = random.pick(&NOT_UTF8);
+            insert(random, &mut list[index], bytes);
+        }
     });
 }
 

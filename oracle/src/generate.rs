@@ -1,5 +1,6 @@
 //! Random accepted files: every node kind, deep and wide ones, and trees that look like code.
 
+pub mod returns;
 pub mod styles;
 pub mod texts;
 
@@ -9,6 +10,14 @@ use crate::tags::*;
 
 /// The fields of an accepted file.
 pub fn fields(random: &mut Random) -> Vec<Field> {
+    made(random, |random, fields| {
+        returns::sprinkle(random, fields);
+        underlined(random, fields);
+    })
+}
+
+/// The fields of an accepted file, with no more CRs and NULs than texts have anyway.
+pub fn fields_without_more_returns(random: &mut Random) -> Vec<Field> {
     made(random, underlined)
 }
 

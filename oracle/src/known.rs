@@ -1,9 +1,12 @@
 //! Faults put into an accepted file on purpose, with the refusal that document 01 gives for each.
 
+pub mod of_strict;
+
 use crate::check::Refusal;
 use crate::damage::styles::{BAD_ENDS, BAD_OPACITIES};
 use crate::damage::NOT_UTF8;
 use crate::field::{self, Field};
+use crate::hex::hex;
 use crate::original::is_39;
 use crate::random::Random;
 use crate::tags::*;
@@ -12,6 +15,14 @@ use crate::tags::*;
 pub struct Known {
     pub file: Vec<u8>,
     pub right: Result<(), Refusal>,
+}
+
+impl Known {
+    /// In words, what was said instead.
+    pub fn instead(&self, said: Result<(), Refusal>) -> String {
+        let (file, right) = (hex(&self.file), self.right);
+        format!("{said:?} in place of {right:?} for {file}")
+    }
 }
 
 /// A known fault in a file that is accepted without it; none if the file has no place for it.

@@ -34,6 +34,7 @@ pub mod scribe;
 pub mod scripts;
 pub mod selftest;
 pub mod shrink;
+pub mod strict;
 pub mod subject;
 #[cfg(feature = "linked")]
 pub mod switched;

@@ -1,6 +1,7 @@
 //! The proved library in this very program, as a subject: what it is lent stands between guards.
 
 mod pairing;
+mod strict;
 mod writing;
 
 use crate::answers::{Answer, Asked, Operation, Outcome, Request, Right, LENT};
@@ -87,6 +88,9 @@ impl Library {
             Operation::Plain => hazomeny::plain_page(file, page),
             Operation::Body => hazomeny::html_body(file, page),
             Operation::Document => hazomeny::html_document(file, page),
+            Operation::CheckStrict => return strict::check(file),
+            Operation::BodyStrict => return strict::body(file, page),
+            Operation::DocumentStrict => return strict::document(file, page),
         };
         match said {
             Ok(count) => Answer::Accepted(count),
@@ -98,7 +102,7 @@ impl Library {
         let answer = self.call(asked);
         let (file, page) = (self.file.lent(), self.page.lent());
         let (file, lent) = match asked.operation {
-            Operation::Check => (asked.file, &[][..]),
+            Operation::Check | Operation::CheckStrict => (asked.file, &[][..]),
             Operation::Layout => (file, file),
             _ => (asked.file, page),
         };
@@ -109,6 +113,18 @@ impl Library {
         // The next call begins with guards that stand.
         *self = Self::new();
         Err("it wrote where it was lent nothing to write".into())
+    }
+}
+
+/// The answer that a C function's number stands for.
+fn decoded(said: u64) -> Answer {
+    let above = (said >> 8) as usize;
+    match said as u8 {
+        0 => Answer::Accepted(above),
+        number => Answer::Refused {
+            number,
+            place: above,
+        },
     }
 }
 

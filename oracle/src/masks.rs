@@ -3,7 +3,7 @@
 mod list;
 mod mask;
 
-use crate::answers::{Answer, Operation, Outcome, Request};
+use crate::answers::{rendered, Answer, Operation, Outcome, Request};
 use crate::check::check;
 use crate::compare::Stop;
 use crate::extent::Extent;
@@ -45,14 +45,19 @@ pub struct Tally {
 pub struct Unlike {
     /// What is asked of the file.
     pub request: Request,
-    mask: Vec<u8>,
+    /// What is asked of the mask.
+    masked: Request,
     why: String,
 }
 
 impl Unlike {
     pub fn words(&self) -> String {
         let request = wire::request_words(&self.request);
-        format!("{request}\n  mask:\n  {}\n  {}", hex(&self.mask), self.why)
+        let (asked, mask) = (self.masked.operation.name(), hex(&self.masked.file));
+        format!(
+            "{request}\n  mask, asked for its {asked}:\n  {mask}\n  {}",
+            self.why
+        )
     }
 }
 
@@ -88,54 +93,75 @@ fn groups(seed: u64, layout: &Request) -> Vec<Group> {
     let file = &layout.file;
     let mut random = Random::new(seed, file.len() as u64);
     let mut masks = Vec::new();
-    for kept in [Kept::Lines, Kept::LinesAndEscapes] {
+    for kept in [Kept::Lines, Kept::LinesAndEscapes, Kept::Strict] {
         masks.push((kept, mask::dull(file, kept)));
         for _ in 0..RANDOM {
             masks.push((kept, mask::random(&mut random, file, kept)));
         }
     }
-    let files = || iter::once(file).chain(masks.iter().map(|(_, mask)| mask));
-    let group = |ask: &dyn Fn(Vec<u8>) -> Request| Group {
-        requests: files().cloned().map(ask).collect(),
+    let group = |kept, ask: &dyn Fn(Vec<u8>) -> Request| Group {
+        requests: files(file, &masks, kept).cloned().map(ask).collect(),
         marks: 0,
-        kept: Kept::Lines,
+        kept,
     };
     let mut groups = vec![
-        group(&Request::check),
-        group(&|file| Request::layout(layout.width, file)),
-        group(&|file| Request::layout(layout.width / 2, file)),
+        group(Kept::Lines, &Request::check),
+        group(Kept::Strict, &|file| {
+            Request::page(Operation::CheckStrict, 0, file)
+        }),
+        group(Kept::Lines, &|file| Request::layout(layout.width, file)),
+        group(Kept::Lines, &|file| Request::layout(layout.width / 2, file)),
     ];
     groups.extend(pages(&mut random, layout, &masks));
     groups
 }
 
-/// The pages of the file as it is laid out, of its marks and of those of the masks that keep enough.
-fn pages(random: &mut Random, layout: &Request, masks: &[(Kept, Vec<u8>)]) -> [Group; 3] {
+/// The file, and those of its masks that keep enough.
+fn files<'a>(
+    file: &'a Vec<u8>,
+    masks: &'a [(Kept, Vec<u8>)],
+    kept: Kept,
+) -> impl Iterator<Item = &'a Vec<u8>> {
+    let masks = masks.iter().filter(move |(by, _)| by.keeps_all_of(kept));
+    iter::once(file).chain(masks.map(|(_, mask)| mask))
+}
+
+/// The pages of the file as it is laid out, of its marks and of those of the masks that keep enough; strict ones where strict mode accepts it.
+fn pages(random: &mut Random, layout: &Request, masks: &[(Kept, Vec<u8>)]) -> Vec<Group> {
     let file = &layout.file;
     let laid_out = original::laid_out(file, layout.width.min(LARGEST_WIDTH));
-    let lengths = original::pages(&laid_out).map(|page| page.len());
-    [0, 1, 2].map(|index| {
-        let operation = Operation::PAGES[index];
-        let kept = match operation {
-            Operation::Plain => Kept::Lines,
-            _ => Kept::LinesAndEscapes,
-        };
-        let marks = mask::marks(&laid_out, kept);
-        let enough = |(keeps, _): &&(Kept, Vec<u8>)| kept == Kept::Lines || *keeps == kept;
-        let masks = masks.iter().filter(enough);
-        let masks = masks.map(|(_, mask)| changed_alike(file, &laid_out, mask));
-        let room = lengths[index] + random.below(3);
-        let first = iter::once(laid_out.clone());
-        Group {
-            marks: marks.len(),
-            kept,
-            requests: first
-                .chain(marks)
-                .chain(masks)
-                .map(|file| Request::page(operation, room, file))
-                .collect(),
-        }
-    })
+    let operations = Operation::ALL.into_iter().filter(|op| op.is_page());
+    let accepted = operations.filter(|op| op.walk(file).is_ok());
+    let group = |operation| {
+        let kept = Kept::by(operation);
+        let length = rendered(operation, &laid_out).map_or(0, |page| page.len());
+        let room = length + random.below(3);
+        let files = files(file, masks, kept);
+        let shown: Vec<Vec<u8>> = files
+            .map(|mask| changed_alike(file, &laid_out, mask))
+            .collect();
+        page_group(operation, room, &shown)
+    };
+    accepted.map(group).collect()
+}
+
+/// A page of a file, which comes first, of its marks and of its masks; strict as well of those that strict mode shows no otherwise.
+fn page_group(operation: Operation, room: usize, shown: &[Vec<u8>]) -> Group {
+    let kept = Kept::by(operation);
+    let (file, masks) = (&shown[0], &shown[1..]);
+    let marks = mask::marks(file, kept);
+    let (count, files) = (marks.len(), iter::once(file).chain(&marks).chain(masks));
+    let ask = |file: &Vec<u8>| Request::page(operation, room, file.clone());
+    let mut requests: Vec<Request> = files.map(ask).collect();
+    if let Some(strict) = operation.made_strict() {
+        let same = shown.iter().filter(|file| mask::is_same_strictly(file));
+        requests.extend(same.map(|file| Request::page(strict, room, file.clone())));
+    }
+    Group {
+        requests,
+        marks: count,
+        kept,
+    }
 }
 
 /// The mask with those bytes changed that a layout changed in the file.
@@ -252,7 +278,7 @@ impl Group {
     fn unlike(&self, mask: usize, why: String) -> Unlike {
         Unlike {
             request: self.requests[0].clone(),
-            mask: self.requests[mask].file.clone(),
+            masked: self.requests[mask].clone(),
             why,
         }
     }

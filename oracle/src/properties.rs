@@ -1,12 +1,15 @@
 //! What has to hold of the judge itself, for accepted files and for any bytes.
 
+mod of_strict;
+
 use crate::answers::{answer, page_outcome, rendered, Answer, Operation, Outcome, Request, LENT};
 use crate::bare;
 use crate::body::{self, Piece};
-use crate::check::check;
+use crate::check::{check, strict_check, Refusal};
 use crate::field::{self, Field};
 use crate::original;
 use crate::pair::{self, masked};
+use crate::strict;
 use crate::tags::*;
 
 /// Holds or says what is wrong.
@@ -16,7 +19,7 @@ pub type Held = Result<(), String>;
 pub type Property = (&'static str, fn(&[u8], u16) -> Held);
 
 /// Of accepted files.
-pub const OF_ACCEPTED: [Property; 12] = [
+pub const OF_ACCEPTED: [Property; 15] = [
     ("generated files are accepted", accepted),
     ("decoding and encoding give the file back", there_and_back),
     ("layout only turns 4s into 3s", layout_changes_4_to_3),
@@ -32,16 +35,32 @@ pub const OF_ACCEPTED: [Property; 12] = [
         "a 39 is an item of its text's tag and nothing else",
         underlines,
     ),
+    (
+        "strict mode refuses the first text with a NUL, and nothing else",
+        of_strict::first_nul,
+    ),
+    (
+        "a strict page is the page with each CR between its tags written out",
+        of_strict::written_out,
+    ),
+    (
+        "the strict body without its tags is the plain page",
+        of_strict::body_is_plain,
+    ),
 ];
 
 /// Of any bytes.
-pub const OF_ANY: [Property; 3] = [
+pub const OF_ANY: [Property; 4] = [
     (
         "every operation gives the refusal of the check",
         same_refusal,
     ),
     ("a refusal stands within the file", place_within),
     ("the loose tree gives the bytes back", loose_tree),
+    (
+        "strict mode differs by NULs in texts and nothing else",
+        of_strict::by_nuls_alone,
+    ),
 ];
 
 fn ensure(holds: bool, why: impl FnOnce() -> String) -> Held {
@@ -113,7 +132,7 @@ fn body_is_plain(file: &[u8], width: u16) -> Held {
     Ok(())
 }
 
-/// The text of a body as a browser would have it: the newline after `<pre>` does not count.
+/// The text of a body, its references read: the newline after `<pre>` does not count.
 fn without_tags(body: &[u8]) -> Vec<u8> {
     let between = |piece| match piece {
         Piece::Tag(_) => &[],
@@ -124,7 +143,8 @@ fn without_tags(body: &[u8]) -> Vec<u8> {
         .flat_map(between)
         .copied()
         .collect();
-    let text = replaced(&text[1..], b"&lt;", b"<");
+    let text = replaced(&text[1..], strict::REFERENCE, b"\r");
+    let text = replaced(&text, b"&lt;", b"<");
     replaced(&text, b"&amp;", b"&")
 }
 
@@ -216,6 +236,9 @@ fn is_pair(file: &[u8], _: u16) -> Held {
     let mask = pair::mask(file).map_err(told)?;
     ensure(pair::mask(&mask) == Ok(mask.clone()), || {
         "the mask has another mask".into()
+    })?;
+    ensure(strict_check(&mask).is_ok(), || {
+        "strict mode refuses the mask".into()
     })?;
     let mut expected = file.to_vec();
     for (place, length) in pair::texts(file, &mask).map_err(told)? {
@@ -312,13 +335,18 @@ fn same_refusal(file: &[u8], width: u16) -> Held {
     let Err(refusal) = check(file) else {
         return Ok(());
     };
-    let right = Answer::from(refusal);
     let width = width.min(LARGEST_WIDTH);
     let laid = answer(&Request::layout(width, file.to_vec()));
-    ensure(laid.answer == right && laid.lent == file, || {
+    ensure(laid.answer == refusal.into() && laid.lent == file, || {
         "layout differs".into()
     })?;
-    for operation in [Operation::Plain, Operation::Body, Operation::Document] {
+    pages_refused(file, refusal, &Operation::PAGES)
+}
+
+/// Each of the pages is refused so, and nothing is written.
+fn pages_refused(file: &[u8], refusal: Refusal, pages: &[Operation]) -> Held {
+    let right = Answer::from(refusal);
+    for operation in pages.iter().copied() {
         let said = answer(&Request::page(operation, 9, file.to_vec()));
         let left = said.lent.iter().all(|byte| *byte == LENT);
         ensure(said.answer == right && left, || {

@@ -3,7 +3,7 @@
 mod seen;
 
 use crate::answers::Request;
-use crate::check::check;
+use crate::check::{check, strict_check};
 use crate::compare::{self, Stop};
 use crate::damage::{self, every};
 use crate::extent::Extent;
@@ -73,11 +73,17 @@ fn one(random: &mut Random, seen: &mut Seen) -> Held {
     if let Some(known) = known::fault(random, &fields) {
         let said = check(&known.file);
         if said != known.right {
-            let (file, right) = (hex(&known.file), known.right);
-            return Err(format!("{said:?} in place of {right:?} for {file}"));
+            return Err(known.instead(said));
         }
         seen.note(said);
         hold_all(&OF_ANY, &known.file, width)?;
+    }
+    if let Some(known) = known::of_strict::fault(random, &fields) {
+        let said = strict_check(&known.file);
+        if said != known.right {
+            return Err(known.instead(said));
+        }
+        seen.note(said);
     }
     let damaged = damage::file(random);
     seen.note(check(&damaged));

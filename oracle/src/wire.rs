@@ -134,7 +134,7 @@ pub fn answer_line(outcome: &Outcome) -> String {
 pub fn request_words(request: &Request) -> String {
     let operation = request.operation.name();
     let detail = match request.operation {
-        Operation::Check => String::new(),
+        Operation::Check | Operation::CheckStrict => String::new(),
         Operation::Layout => format!(" at width {}", request.width),
         _ => format!(" into {} bytes", request.room),
     };

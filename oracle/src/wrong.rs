@@ -2,6 +2,7 @@
 
 mod of_pairs;
 mod of_scripts;
+mod of_strict;
 mod of_underlines;
 mod of_words;
 
@@ -63,11 +64,13 @@ const OF_MASKS: [Row; 4] = [
 
 pub fn all() -> Vec<Wrong> {
     let rows = ALL.into_iter().chain(of_underlines::ROWS);
+    let rows = rows.chain(of_strict::ROWS);
     rows.map(Wrong::new).collect()
 }
 
 pub fn of_masks() -> Vec<Wrong> {
-    OF_MASKS.into_iter().map(Wrong::new).collect()
+    let rows = OF_MASKS.into_iter().chain(of_strict::OF_MASKS);
+    rows.map(Wrong::new).collect()
 }
 
 pub fn of_pairs() -> Vec<WrongMasker> {

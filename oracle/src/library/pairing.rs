@@ -1,7 +1,7 @@
 //! The library's masks and pairs: both files and the page are lent between guards, and the files are looked at again after each call.
 
-use super::Library;
-use crate::answers::{Answer, Outcome};
+use super::{decoded, Library};
+use crate::answers::Outcome;
 use crate::masker::{Masker, Question};
 use crate::subject::Said;
 
@@ -65,17 +65,5 @@ impl Library {
             answer: decoded(said),
             lent: Vec::new(),
         })
-    }
-}
-
-/// The answer that a C function's number stands for.
-fn decoded(said: u64) -> Answer {
-    let above = (said >> 8) as usize;
-    match said as u8 {
-        0 => Answer::Accepted(above),
-        number => Answer::Refused {
-            number,
-            place: above,
-        },
     }
 }

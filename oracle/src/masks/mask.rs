@@ -1,5 +1,6 @@
 //! Masks of accepted files: other bytes in the texts, with what a mask has to keep at its places.
 
+use crate::answers::Operation;
 use crate::field::{self, Field};
 use crate::generate::texts;
 use crate::random::Random;
@@ -13,13 +14,30 @@ pub enum Kept {
     Lines,
     /// Newlines and the bytes that HTML escapes.
     LinesAndEscapes,
+    /// With CR, which strict HTML escapes, and NUL, which it refuses.
+    Strict,
 }
 
 impl Kept {
+    /// What a page's masks have to keep.
+    pub fn by(page: Operation) -> Self {
+        match page {
+            Operation::Plain => Self::Lines,
+            Operation::Body | Operation::Document => Self::LinesAndEscapes,
+            _ => Self::Strict,
+        }
+    }
+
+    /// Whether its masks keep all that those of the other do: each keeps more than the one before it.
+    pub fn keeps_all_of(self, other: Self) -> bool {
+        self as u8 >= other as u8
+    }
+
     fn keeps(self, byte: u8) -> bool {
         match self {
             Self::Lines => byte == b'\n',
             Self::LinesAndEscapes => matches!(byte, b'\n' | b'&' | b'<'),
+            Self::Strict => matches!(byte, b'\n' | b'&' | b'<' | b'\r' | 0),
         }
     }
 }
@@ -44,6 +62,12 @@ fn texts(file: &[u8]) -> Vec<Range<usize>> {
 pub fn changeable(file: &[u8], kept: Kept) -> Vec<usize> {
     let places = texts(file).into_iter().flatten();
     places.filter(|place| !kept.keeps(file[*place])).collect()
+}
+
+/// Whether no text has a byte that only strict HTML looks at.
+pub fn is_same_strictly(file: &[u8]) -> bool {
+    let mut places = texts(file).into_iter().flatten();
+    places.all(|place| !matches!(file[place], b'\r' | 0))
 }
 
 /// The mask that has an `x` for each byte.

@@ -6,8 +6,8 @@ use crate::original::is_39;
 use crate::tags::*;
 use std::collections::HashSet;
 
-/// The refusals of the check.
-const REFUSALS: [u8; 8] = [1, 3, 4, 5, 6, 7, 8, 9];
+/// The refusals of the check, and the one that strict mode has beside them.
+const REFUSALS: [u8; 9] = [1, 3, 4, 5, 6, 7, 8, 9, 14];
 
 /// A 39 may stand alone, and behind so many choices of other fields: three of colour and opacity, three of scripts, and any of the others.
 const CHOICES: usize = 3 * 3 * 8;
@@ -19,7 +19,7 @@ const ENOUGH_FOR_CHOICES: u64 = 50_000;
 #[derive(Default)]
 pub struct Seen {
     /// How often each refusal was seen; 0 counts accepted files.
-    refusals: [u64; 10],
+    refusals: [u64; 15],
     /// The tags of the 16s that had a 39, in texts and in runs of anchors.
     in_texts: HashSet<Vec<u8>>,
     in_runs: HashSet<Vec<u8>>,

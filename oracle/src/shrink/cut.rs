@@ -26,11 +26,14 @@ pub enum Cut {
     SixtyFourth,
     FirstByte,
     LastByte,
+    /// Drops a whole character, so that a text stays UTF-8.
+    FirstCharacter,
+    LastCharacter,
     /// Makes its bytes all alike.
     Dull,
 }
 
-pub const CUTS: [Cut; 14] = [
+pub const CUTS: [Cut; 16] = [
     Cut::After,
     Cut::UpTo,
     Cut::Run,
@@ -44,6 +47,8 @@ pub const CUTS: [Cut; 14] = [
     Cut::SixtyFourth,
     Cut::FirstByte,
     Cut::LastByte,
+    Cut::FirstCharacter,
+    Cut::LastCharacter,
     Cut::Dull,
 ];
 
@@ -83,7 +88,20 @@ impl Cut {
             Self::SixtyFourth => value.truncate(length - length / 64),
             Self::FirstByte => drop(value.drain(..length.min(1))),
             Self::LastByte => value.truncate(length.saturating_sub(1)),
+            Self::FirstCharacter => {
+                let next = value.iter().skip(1).position(begins_character);
+                drop(value.drain(..next.map_or(length, |next| next + 1)));
+            }
+            Self::LastCharacter => {
+                let last = value.iter().rposition(begins_character);
+                value.truncate(last.unwrap_or(0));
+            }
             _ => value.fill(b'a'),
         }
     }
+}
+
+/// Whether the byte is none of those that continue a character.
+fn begins_character(byte: &u8) -> bool {
+    byte & 0xc0 != 0x80
 }
