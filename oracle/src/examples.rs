@@ -1,5 +1,6 @@
 //! The checked examples of document 01 and its settled readings, as requests with what is right.
 
+mod strict;
 mod tables;
 
 use crate::answers::{answer, Answer, Operation, Outcome, Request, LENT};
@@ -40,6 +41,7 @@ pub fn all() -> Vec<Example> {
         all.push(check_example(name, bytes(file), right));
     }
     all.extend(built());
+    all.extend(strict::all());
     all
 }
 

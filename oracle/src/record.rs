@@ -1,7 +1,7 @@
 //! The recorded answers: a fixed choice of small cases for each part.
 
 use crate::answers::{answer, rendered, Operation, Request};
-use crate::check::check;
+use crate::check::{check, strict_check};
 use crate::damage;
 use crate::damage::styles::{BadEnd, BAD_ENDS};
 use crate::examples;
@@ -20,11 +20,19 @@ use std::path::Path;
 const SEED: u64 = 20_240_607;
 
 /// The parts and the operations that each holds.
-const PARTS: [(&str, &[Operation]); 4] = [
+const PARTS: [(&str, &[Operation]); 5] = [
     ("check", &[Operation::Check]),
     ("layout", &[Operation::Layout]),
     ("plain", &[Operation::Plain]),
     ("html", &[Operation::Body, Operation::Document]),
+    (
+        "strict",
+        &[
+            Operation::CheckStrict,
+            Operation::BodyStrict,
+            Operation::DocumentStrict,
+        ],
+    ),
 ];
 
 /// The operations that are not of strict mode.
@@ -68,6 +76,7 @@ fn cases() -> Vec<Request> {
     cases.extend(accepted_files().flat_map(requests_for_accepted));
     cases.extend(refused_files().into_iter().flat_map(requests_for_refused));
     cases.extend(BAD_ENDS.into_iter().flat_map(requests_for_bad_end));
+    cases.extend(strict_cases());
     // Over-long files only where their answers are short.
     cases.retain(|case| case.operation == Operation::Check || case.file.len() <= LONGEST_FILE);
     let mut seen = HashSet::new();
@@ -176,6 +185,38 @@ fn requests_for_bad_end(end: BadEnd) -> [Request; 5] {
         room: 3 * usize::from(operation.is_page()),
         file: file.clone(),
     })
+}
+
+/// So many generated files are shown in strict mode, and so many are refused by it alone.
+const STRICTLY_SHOWN: usize = 14;
+const STRICTLY_REFUSED: usize = 10;
+
+/// Small files that show a CR, and small damaged ones that strict mode refuses otherwise.
+fn strict_cases() -> Vec<Request> {
+    let small = |file: &Vec<u8>| (12..40).contains(&file.len());
+    let shown = random_files(SEED + 4, generate::fields).filter(small);
+    let shown = shown.filter(|file| shows_return(file)).take(STRICTLY_SHOWN);
+    let damaged = (0..).map(|index| damage::file(&mut Random::new(SEED + 5, index)));
+    let refused = damaged.filter(|file| small(file) && strict_check(file) != check(file));
+    let refused = refused.take(STRICTLY_REFUSED);
+    let checks = refused.map(|file| Request::page(Operation::CheckStrict, 0, file));
+    shown.enumerate().map(strict_page).chain(checks).collect()
+}
+
+fn shows_return(file: &[u8]) -> bool {
+    let strict = rendered(Operation::BodyStrict, file);
+    strict.is_ok() && strict != rendered(Operation::Body, file)
+}
+
+/// Bodies but for one document; one in four has a byte too little room.
+fn strict_page((number, file): (usize, Vec<u8>)) -> Request {
+    let operation = match number {
+        0 => Operation::DocumentStrict,
+        _ => Operation::BodyStrict,
+    };
+    let length = rendered(operation, &file).map_or(0, |page| page.len());
+    let short = usize::from(number % 4 == 3);
+    Request::page(operation, length - short, file)
 }
 
 /// The check of each, and one other operation: layout at a good or bad width, or a page.
