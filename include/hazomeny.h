@@ -31,7 +31,7 @@ enum {
     HAZOMENY_HTML_FRAME = 1072
 };
 
-/* The number of the refusal, 1 to 13, or 0 if the file, pair or step is accepted. */
+/* The number of the refusal, 1 to 14, or 0 if the file, pair or step is accepted. */
 static inline unsigned hazomeny_refusal(uint64_t answer) { return (unsigned)(answer & 255); }
 
 /* The count of an accepted answer, or the place of a refusal: a byte of the file, or for refusal 10 the bytes that the page or a writer's file
@@ -40,6 +40,10 @@ static inline uint64_t hazomeny_number(uint64_t answer) { return answer >> 8; }
 
 /* The file check. Only reads the file. Answers the count 0 if the file is accepted, else the first fault: refusal 1 or 3 to 9. */
 uint64_t hazomeny_check(const uint8_t *file, size_t length);
+
+/* The file check of strict HTML. As hazomeny_check, but a NUL in a text (field 17 or 7) is refused by 14, after 7 at the same field: a browser
+ * would drop it. */
+uint64_t hazomeny_check_strict(const uint8_t *file, size_t length);
 
 /* Layout in place, at a width in columns. Answers how many tags it changed from 4 (inline or indented) to 3 (indented); no other byte
  * changes, and the file stays an accepted one. Refusals: 1, then 2 for a width over 6,553, then those of the file check. */
@@ -57,6 +61,14 @@ uint64_t hazomeny_html_body(const uint8_t *file, size_t length, uint8_t *page, s
 
 /* The whole HTML document: the body, with its style element. Otherwise as hazomeny_html_body. */
 uint64_t hazomeny_html_document(const uint8_t *file, size_t length, uint8_t *page, size_t room);
+
+/* The strict HTML body: in texts a CR is written as `&#13;`, so that a browser gives the plain page back byte for byte; without it a browser reads
+ * a CR as a newline. Where no text has a CR it is the body of hazomeny_html_body. Refusals: those of hazomeny_check_strict, then 10. Otherwise as
+ * hazomeny_html_body, with the same `room` being enough. */
+uint64_t hazomeny_html_body_strict(const uint8_t *file, size_t length, uint8_t *page, size_t room);
+
+/* The whole HTML document with the strict body. Otherwise as hazomeny_html_body_strict. */
+uint64_t hazomeny_html_document_strict(const uint8_t *file, size_t length, uint8_t *page, size_t room);
 
 /* The mask of a file: the same file, but each byte of its texts (fields 17 and 7) that is no newline is `x`. All else is copied, the names of
  * anchors too. Only reads the file. The mask has the file's length, is accepted itself, and its pages break into the same lines. Otherwise as

@@ -195,15 +195,16 @@ class Limits(unittest.TestCase):
 
 
 class Prototypes(unittest.TestCase):
-    def test_there_are_eight(self):
-        right = ("check", "layout", "plain", "html_body", "html_document", "mask", "pair", "write")
-        self.assertEqual([name for name, _, _ in entries()], [f"hazomeny_{each}" for each in right])
+    def test_there_are_eleven(self):
+        strict = ("check_strict", "html_body_strict", "html_document_strict")
+        right = ("check", "layout", "plain", "html_body", "html_document", "mask", "pair", "write", *strict)
+        self.assertCountEqual([name for name, _, _ in entries()], [f"hazomeny_{each}" for each in right])
 
     def test_the_header(self):
-        self.assertEqual(declared_in_c(HEADER), [in_c(*each) for each in entries()])
+        self.assertCountEqual(declared_in_c(HEADER), [in_c(*each) for each in entries()])
 
     def test_the_crate(self):
-        self.assertEqual(declared_in_rust(RUST), [in_rust(*each) for each in entries()])
+        self.assertCountEqual(declared_in_rust(RUST), [in_rust(*each) for each in entries()])
 
     def test_mistakes_are_found(self):
         """What a compiler and a linker let pass."""
@@ -211,12 +212,14 @@ class Prototypes(unittest.TestCase):
             (declared_in_c, HEADER, in_c, "size_t length, size_t width", "size_t width, size_t length"),
             (declared_in_c, HEADER, in_c, "size_t length, uint8_t *page, size_t room", "size_t room, uint8_t *page, size_t length"),
             (declared_in_c, HEADER, in_c, "uint64_t hazomeny_check", "uint32_t hazomeny_check"),
+            (declared_in_c, HEADER, in_c, "hazomeny_html_body_strict(const uint8_t *file", "hazomeny_html_body_strict(uint8_t *file"),
             (declared_in_c, HEADER, in_c, "size_t width);", "uint32_t width);"),
             (declared_in_c, HEADER, in_c, "uint32_t state[2], ", "uint32_t state[3], "),
             (declared_in_c, HEADER, in_c, "const uint8_t style[18]", "const uint8_t *style"),
             (declared_in_c, HEADER, in_c, "size_t mask_length, uint32_t place", "uint32_t mask_length, size_t place"),
             (declared_in_rust, RUST, in_rust, "length: usize, width: usize", "width: usize, length: usize"),
             (declared_in_rust, RUST, in_rust, "width: usize) -> u64;", "width: usize) -> u32;"),
+            (declared_in_rust, RUST, in_rust, "pub fn hazomeny_check_strict(file: *const u8, length: usize)", "pub fn hazomeny_check_strict(file: *const u8)"),
             (declared_in_rust, RUST, in_rust, "style: *const [u8; 18]", "style: *const [u8; 17]"),
             (declared_in_rust, RUST, in_rust, "step: u8", "step: u32"),
             (declared_in_rust, RUST, in_rust, "place: u32", "place: usize"),
@@ -225,7 +228,7 @@ class Prototypes(unittest.TestCase):
         for declared, source, right, was, wrong in mistakes:
             with self.subTest(wrong):
                 self.assertIn(was, source)
-                self.assertNotEqual(declared(source.replace(was, wrong, 1)), [right(*each) for each in entries()])
+                self.assertNotEqual(sorted(declared(source.replace(was, wrong, 1))), sorted(right(*each) for each in entries()))
 
 
 if __name__ == "__main__":

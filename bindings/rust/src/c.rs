@@ -4,10 +4,23 @@ use crate::Refusal;
 
 extern "C" {
     pub fn hazomeny_check(file: *const u8, length: usize) -> u64;
+    pub fn hazomeny_check_strict(file: *const u8, length: usize) -> u64;
     pub fn hazomeny_layout(file: *mut u8, length: usize, width: usize) -> u64;
     pub fn hazomeny_plain(file: *const u8, length: usize, page: *mut u8, room: usize) -> u64;
     pub fn hazomeny_html_body(file: *const u8, length: usize, page: *mut u8, room: usize) -> u64;
     pub fn hazomeny_html_document(
+        file: *const u8,
+        length: usize,
+        page: *mut u8,
+        room: usize,
+    ) -> u64;
+    pub fn hazomeny_html_body_strict(
+        file: *const u8,
+        length: usize,
+        page: *mut u8,
+        room: usize,
+    ) -> u64;
+    pub fn hazomeny_html_document_strict(
         file: *const u8,
         length: usize,
         page: *mut u8,

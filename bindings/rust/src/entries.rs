@@ -174,9 +174,11 @@ pub fn append_mask(file: &[u8], page: &mut Vec<u8>) -> Result<usize, Refusal> {
     append(c::hazomeny_mask, counted(file), file, page)
 }
 
-type PageEntry = unsafe extern "C" fn(*const u8, usize, *mut u8, usize) -> u64;
+/// An entry that writes to a page, by its C name.
+pub(crate) type PageEntry = unsafe extern "C" fn(*const u8, usize, *mut u8, usize) -> u64;
 
-fn lend(entry: PageEntry, file: &[u8], page: &mut [u8]) -> Result<usize, Refusal> {
+/// Has a page written to a slice.
+pub(crate) fn lend(entry: PageEntry, file: &[u8], page: &mut [u8]) -> Result<usize, Refusal> {
     // SAFETY: each pointer and length are those of one slice; the file is only read, the page is lent for writing, and the two do not
     // overlap, since the page is borrowed alone.
     answer(unsafe { entry(file.as_ptr(), file.len(), page.as_mut_ptr(), page.len()) })
@@ -191,13 +193,14 @@ fn most_plain(file: &[u8]) -> usize {
     PLAIN_PER_BYTE * counted(file)
 }
 
-fn most_html(file: &[u8]) -> usize {
+/// Room for every HTML page of a file of this length, strict or not.
+pub(crate) fn most_html(file: &[u8]) -> usize {
     HTML_PER_BYTE * counted(file) + HTML_FRAME
 }
 
-/// Makes room for the most bytes that the page can have. Where a vector that had no room before has some left, its bytes are copied out of it: to
+/// Has a page written behind what a vector holds. It makes room for the most bytes that the page can have. Where a vector that had no room before has some left, its bytes are copied out of it: to
 /// shrink it costs the allocator more, which keeps a large mapping for a small page and makes the next one anew.
-fn append(
+pub(crate) fn append(
     entry: PageEntry,
     most: usize,
     file: &[u8],

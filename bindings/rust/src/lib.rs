@@ -26,6 +26,9 @@
 //! A plain page has at most [`PLAIN_PER_BYTE`] bytes for each byte of its file, so that a slice of that length is never too short for
 //! [`plain_page`]; an HTML body or document has at most [`HTML_PER_BYTE`] for each, and [`HTML_FRAME`] bytes around them.
 //!
+//! In a browser a CR of a text turns into a newline, and a NUL is dropped. Strict HTML ([`html_body_strict`], [`html_document_strict`]) gives every
+//! text back byte for byte: it writes a CR as `&#13;`, and refuses a NUL.
+//!
 //! The code behind these functions is a static library, `libhazomeny.a`, for x86-64 Linux. It uses no memory but the stack (under
 //! 16 KiB of it), keeps no state, and may be called from any number of threads.
 
@@ -38,6 +41,7 @@ mod limits;
 mod pair;
 mod refusal;
 mod step;
+mod strict;
 mod style;
 mod writer;
 
@@ -46,5 +50,7 @@ pub use entries::{check_file, html_body, html_document, layout_file, mask_file, 
 pub use limits::{HTML_FRAME, HTML_PER_BYTE, MOST_BYTES, MOST_COLUMNS, PLAIN_PER_BYTE};
 pub use pair::Pair;
 pub use refusal::Refusal;
+pub use strict::{append_html_body_strict, append_html_document_strict};
+pub use strict::{check_file_strict, html_body_strict, html_document_strict};
 pub use style::{Style, Text};
 pub use writer::{Buffer, Entries, Writer};

@@ -9,7 +9,7 @@ use std::fmt;
 /// step may be another, or the same once more.
 #[derive(Clone, Copy, Debug, PartialEq, Eq, Hash)]
 pub struct Refusal {
-    /// 1 to 13.
+    /// 1 to 14.
     pub number: u8,
     /// The byte of the file where the fault stands. Of a writer's step it is where the step would have begun to write; for
     /// [`Refusal::PAGE_TOO_SHORT`] it is the bytes that the page needs, or the file with the step in it; for [`Refusal::NO_TEXT`] it is the place
@@ -31,6 +31,9 @@ impl Refusal {
     /// The number of a pair's refusal of a place where no text's field begins.
     pub const NO_TEXT: u8 = 13;
 
+    /// The number of strict HTML's refusal of a text with a NUL, which a browser would drop.
+    pub const NUL_IN_TEXT: u8 = 14;
+
     /// What the number means. Of a writer's step it speaks of the file as it would be with the step in it.
     pub fn meaning(&self) -> &'static str {
         match self.number {
@@ -47,6 +50,7 @@ impl Refusal {
             Self::OUT_OF_PLACE => "a step that is not allowed there",
             Self::NOT_THE_MASK => "the second file is not the mask of the first",
             Self::NO_TEXT => "no text begins there",
+            Self::NUL_IN_TEXT => "NUL in a text",
             _ => "no refusal of this library",
         }
     }

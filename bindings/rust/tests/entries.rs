@@ -9,10 +9,12 @@ type Page = fn(&[u8], &mut [u8]) -> Result<usize, Refusal>;
 type Append = fn(&[u8], &mut Vec<u8>) -> Result<usize, Refusal>;
 
 /// The entries that write to a page: the pages, and last the mask.
-const PAGES: [(Page, Append); 4] = [
+const PAGES: [(Page, Append); 6] = [
     (plain_page, append_plain_page),
     (html_body, append_html_body),
     (html_document, append_html_document),
+    (html_body_strict, append_html_body_strict),
+    (html_document_strict, append_html_document_strict),
     (mask_file, append_mask),
 ];
 
@@ -137,6 +139,7 @@ fn faulty() -> Vec<(Vec<u8>, Refusal)> {
 fn a_faulty_file_is_refused_by_every_entry_and_nothing_is_changed() {
     for (file, refusal) in faulty() {
         assert_eq!(check_file(&file), Err(refusal));
+        assert_eq!(check_file_strict(&file), Err(refusal));
         let mut lent = file.clone();
         assert_eq!(layout_file(&mut lent, 80), Err(refusal));
         assert_eq!(lent, file);
@@ -196,6 +199,7 @@ fn limits_are_accepted() {
     let deep = |tag| nested(tag, 32, Vec::new());
     for file in [Vec::new(), text(&text_bytes), deep(3), deep(4)] {
         assert_eq!(check_file(&file), Ok(0));
+        assert_eq!(check_file_strict(&file), Ok(0));
     }
     let mut page = vec![LENT; 3];
     assert_eq!(plain_page(b"", &mut page), Ok(0));
@@ -260,7 +264,7 @@ fn styled(count: usize) -> Vec<u8> {
 fn so_much_for_each_byte_and_the_frame_is_enough_for_html() {
     assert!(appended(append_html_body, &styled(100)).len() > 4 * styled(100).len());
     for file in [indented_lines(29_000), styled(1), styled(1_600), call()] {
-        for (page, append) in &PAGES[1..3] {
+        for (page, append) in &PAGES[1..5] {
             let right = appended(*append, &file);
             for room in [most_html(&file) - 1, most_html(&file)] {
                 let mut lent = vec![LENT; room];

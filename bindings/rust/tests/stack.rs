@@ -3,6 +3,8 @@
 use hazomeny::*;
 use std::thread;
 
+type Append = fn(&[u8], &mut Vec<u8>) -> Result<usize, Refusal>;
+
 const STACK: usize = 256 << 10;
 const MOST_BLOCKS: usize = 32;
 const LONGEST_FILE: usize = hazomeny::MOST_BYTES;
@@ -67,6 +69,7 @@ fn on_a_small_stack(work: impl FnOnce() + Send + 'static) {
 /// All entries; at width 0 every block breaks.
 fn all_entries(mut file: Vec<u8>) {
     assert_eq!(check_file(&file), Ok(0));
+    assert_eq!(check_file_strict(&file), Ok(0));
     assert_eq!(layout_file(&mut file, 0), Ok(MOST_BLOCKS));
     let mut pages = [Vec::new(), Vec::new(), Vec::new()];
     let appends = [append_plain_page, append_html_body, append_html_document];
@@ -79,6 +82,14 @@ fn all_entries(mut file: Vec<u8>) {
     let body = String::from_utf8(pages[1].clone()).expect("the body is UTF-8");
     let document = String::from_utf8(pages[2].clone()).expect("the document is UTF-8");
     assert!(document.contains(&body));
+    for (append, loose) in [
+        (append_html_body_strict as Append, &pages[1]),
+        (append_html_document_strict, &pages[2]),
+    ] {
+        let mut page = Vec::new();
+        append(&file, &mut page).expect("the file is accepted");
+        assert!(page == *loose, "no text has a CR");
+    }
     masked_and_read(&file);
 }
 
