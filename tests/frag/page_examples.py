@@ -6,7 +6,7 @@ import shlex
 from harness import ROOT, Case, command, frag
 
 PAGE = ROOT / "tools" / "NOTATION.md"
-NOTATIONS, COMMANDS = 2, 5  # how many the page has; a page that lost them would check nothing
+NOTATIONS, COMMANDS = 2, 7  # how many the page has; a page that lost them would check nothing
 
 
 class PageExamples(Case):

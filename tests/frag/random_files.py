@@ -5,7 +5,7 @@ import struct
 
 from harness import Case, command
 
-from fraglib import floats, hexes, items, notation, unparse
+from fraglib import floats, format as f, hexes, items, notation, unparse
 from fraglib.reading import check, read
 
 SEED = 20_240_611
@@ -94,6 +94,12 @@ def spoiled(rng, data):
     return data[:at] + (data[at + 1:] if kind == 2 else b"")
 
 
+def first_nul(data):
+    """The place of the first text with a NUL in an accepted file, or None."""
+    texts = (each for each in read(data)[0] if each.tag in (f.TEXT_BYTES, f.IF_BLOCK))
+    return next((each.place for each in texts if 0 in data[each.start:each.end]), None)
+
+
 def notation_of(data):
     fields, refusal = read(data)
     return "".join(line + "\n" for line in unparse.notation_lines(data, fields, refusal))
@@ -123,12 +129,21 @@ class RandomFiles(Case):
                 self.same(name + kind + ": hex", hexes.unhex(hex_of(each)).hex(), each.hex())
             self.same(name + ": no raw is needed", "raw" in notation_of(data).split(), False)
         self.same("most spoiled files are refused", refused > FILES / 2, True)
+        self.strict(files)
         large = b"".join(files[:100])  # a sequence of root fragments is one too
         self.same("a large file's size", 10_000 < len(large) <= 60_000, True)
         again = command("dump", "--notation", "-", given=large)
         self.same("a large file by the command", command("build", "-", given=again[1]),
                   (0, large, ""))
         self.decimals(rng)
+
+    def strict(self, files):
+        """Strict HTML refuses just the files with a NUL in a text, and there are some of both."""
+        places = [first_nul(data) for data in files]
+        refusals = [check(data, strict=True) for data in files]
+        self.same("refused for strict HTML", [each and each.answer() for each in refusals],
+                  [None if place is None else "refused 14 at %d" % place for place in places])
+        self.same("some have a NUL", 0 < places.count(None) < FILES, True)
 
     def decimals(self, rng):
         """Opacities read back, and one place fewer would not, by the machine's own floats."""

@@ -164,12 +164,41 @@ CASES = [
      "11000178", "accepted"),
 ]
 
+# Those of them that have a NUL in a text.
+NULS = {"NUL and quotes in texts"}
+
 # Opacity bits, and whether they are accepted beside a colour.
 OPACITIES = [
     ("00000000", True), ("80000000", False), ("00000001", False), ("007fffff", False),
     ("3a7fffff", False), ("3a800000", True), ("3a800001", True), ("3f7fffff", True),
     ("3f800000", True), ("3f800001", False), ("bf000000", False), ("7f800000", False),
     ("ff800000", False), ("7fc00000", False), ("ffffffff", False),
+]
+
+
+# What it shows, bytes, the check's answer, and that for strict HTML.
+STRICT_CASES = [
+    ("a NUL in a text", "010005 110002 6100", "accepted", "refused 14 at 3"),
+    ("a NUL in an if-block", A + "070001 00", "accepted", "refused 14 at 7"),
+    ("a NUL behind styles", "01000a 100003 260000 110001 00", "accepted", "refused 14 at 9"),
+    ("a NUL in a block", "04000a 080007 010004 110001 00", "accepted", "refused 14 at 9"),
+    ("a NUL in an anchor's text, and in its name", "02000b 120001 00 010004 110001 00", "accepted",
+     "refused 14 at 10"),
+    ("a NUL in a definition", "020004 120001 00", "accepted", "accepted"),
+    ("a NUL in a use", "020004 130001 00", "accepted", "accepted"),
+    ("NULs in a style", "01000c 100006 200003 000000 110000", "accepted", "accepted"),
+    ("a NUL written in two bytes is not UTF-8", "070002 c080", "refused 7 at 0", "refused 7 at 0"),
+    ("a CR", "070003 0d0a0d", "accepted", "accepted"),
+    ("7 before 14", "070002 00ff", "refused 7 at 0", "refused 7 at 0"),
+    ("7 before 14, the NUL last", "070002 ff00", "refused 7 at 0", "refused 7 at 0"),
+    ("14 in front of a 7", "070001 00 070001 ff", "refused 7 at 4", "refused 14 at 0"),
+    ("a 7 in front of a 14", "070001 ff 070001 00", "refused 7 at 0", "refused 7 at 0"),
+    ("14 in front of a 4 after the 17", "010007 110001 00 630000", "refused 4 at 7",
+     "refused 14 at 3"),
+    ("14 in front of a 3", "070001 00 05", "refused 3 at 4", "refused 14 at 0"),
+    ("3 before 14 at one field", "070002 00", "refused 3 at 0", "refused 3 at 0"),
+    ("4 before 14 at one field", "110001 00", "refused 4 at 0", "refused 4 at 0"),
+    ("1 before the walk", "070001 00" * 15_001, "refused 1 at 0", "refused 1 at 0"),
 ]
 
 
@@ -216,6 +245,27 @@ class Refusals(Case):
             self.same("check: " + name, refusal.answer() if refusal else "accepted", answer)
             lines.append("%s %s\n" % (data.hex(), answer))
         self.compared(lines)
+
+    def test_strict(self):
+        lines = []
+        for name, hex_bytes, answer, strict in STRICT_CASES:
+            data = unspaced(hex_bytes)
+            for right, asked in ((answer, []), (strict, ["--strict"])):
+                self.same("check: %s %s" % (name, asked), frag("check", *asked, "-", given=data),
+                          (0 if right == "accepted" else 1, right.encode() + b"\n", ""))
+            lines.append("%s %s\n" % (data.hex(), strict))
+        self.same("check --strict --lines",
+                  frag("check", "--strict", "--lines", given="".join(lines).encode()),
+                  (0, b"%d lines agree\n" % len(lines), ""))
+        self.same("check --lines of strict answers",
+                  frag("check", "--lines", given="".join(lines).encode())[0], 1)
+
+    def test_cases_without_a_nul_are_alike(self):
+        for name, data, answer in all_cases():
+            if name not in NULS:
+                refusal = check(data, strict=True)
+                self.same("check --strict: " + name, refusal.answer() if refusal else "accepted",
+                          answer)
 
     def compared(self, lines):
         """The same cases through `check --lines`, and lines that must not pass there."""

@@ -4,8 +4,9 @@ import re
 
 from harness import SAMPLES, Case, command, frag
 
-WANTED = {"call", "shader", "styles", "layout", "underline"}
-NUMBERS = set(range(3, 10))  # what a file alone can be refused by, but for its size
+WANTED = {"call", "shader", "styles", "layout", "underline", "returns"}
+STRICT = 14  # what strict HTML alone refuses
+NUMBERS = {*range(3, 10), STRICT}  # what a file alone can be refused by, but for its size
 
 
 class Samples(Case):
@@ -16,25 +17,27 @@ class Samples(Case):
         built = {each.with_suffix(".frag") for each in SAMPLES.rglob("*.fragment")}
         self.same("notation and built file come in pairs", built, set(sound + faulty))
         for each in sound:
-            self.same_as_built(each, "accepted")
+            self.same_as_built(each, "accepted", "accepted")
         numbers = set()
         for each in faulty:
             said = re.match(r"# (refused ([0-9]+) at [0-9]+): ", each.read_text(encoding="utf-8"))
             self.same("%s says its refusal" % each.name, said is not None, True)
             if said:
                 numbers.add(int(said[2]))
-                self.same_as_built(each, said[1])
+                self.same_as_built(each, said[1], "accepted" if int(said[2]) == STRICT else said[1])
         self.same("refusals that have a sample", numbers, NUMBERS)
 
-    def same_as_built(self, notation, answer):
+    def same_as_built(self, notation, strict, answer):
+        """`answer` is the check's, and what it is for strict HTML."""
         stored = notation.with_suffix(".fragment").read_bytes()
         status, built, warning = command("build", notation)
         self.same("%s builds to the file beside it" % notation.name, (status, built), (0, stored))
         self.same("%s: warned of a refused file alone" % notation.name, bool(warning),
                   answer != "accepted")
-        self.same("%s: checked" % notation.name,
-                  frag("check", notation.with_suffix(".fragment"))[:2],
-                  (0 if answer == "accepted" else 1, answer.encode() + b"\n"))
+        for right, asked in ((answer, []), (strict, ["--strict"])):
+            self.same("%s: checked %s" % (notation.name, asked),
+                      frag("check", *asked, notation.with_suffix(".fragment")),
+                      (0 if right == "accepted" else 1, right.encode() + b"\n", ""))
         again = frag("dump", "--notation", "-", given=stored)[1]
         self.same("%s: back in notation, and built again" % notation.name,
                   frag("build", "-", given=again)[1], stored)

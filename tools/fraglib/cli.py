@@ -158,10 +158,10 @@ def mask_answer(data):
 
 def run_check(options):
     if options.lines:
-        return agree_lines(CHECKED, lambda data: answer(check(data)))
+        return agree_lines(CHECKED, lambda data: answer(check(data, options.strict)))
     if options.file is None:
         raise Trouble("check: found neither a FILE nor --lines, expected one of them")
-    refusal = check(read_input(options.file))
+    refusal = check(read_input(options.file), options.strict)
     write_lines([answer(refusal)])
     return REFUSED if refusal else ACCEPTED
 
@@ -258,7 +258,9 @@ COMMANDS = [
      [(("--notation",), {"action": "store_true",
                          "help": "print notation that builds to the same bytes"}), FILE]),
     ("check", run_check, "Say whether a file is accepted, or its first fault.",
-     [(("--lines",), {"action": "store_true",
+     [(("--strict",), {"action": "store_true",
+                       "help": "for strict HTML, which also refuses a NUL in a text"}),
+      (("--lines",), {"action": "store_true",
                       "help": "compare with answers 'HEX accepted' or 'HEX refused N at P' "
                               "from standard input"}),
       (("file",), {"nargs": "?", "metavar": "FILE",

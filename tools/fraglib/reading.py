@@ -35,14 +35,14 @@ class Field(NamedTuple):
         return "the file" if self.level < 0 else f.this(self.tag)
 
 
-def check(data):
-    """None for an accepted file, else its Refusal."""
-    return read(data)[1]
+def check(data, strict=False):
+    """None for an accepted file, else its Refusal; strict HTML also refuses a NUL in a text."""
+    return read(data, strict)[1]
 
 
-def read(data):
+def read(data, strict=False):
     """All fields with a sound header up to the first fault, in file order, and that fault."""
-    walk = Walk(data)
+    walk = Walk(data, strict)
     try:
         walk.whole_file()
     except Refusal as refusal:
@@ -53,8 +53,9 @@ def read(data):
 class Walk:
     """One pass from the front. `fields` grows as headers are found sound, before their content."""
 
-    def __init__(self, data):
+    def __init__(self, data, strict):
         self.data = data
+        self.strict = strict
         self.fields = []
         self.open_blocks = 0
 
@@ -158,22 +159,30 @@ class Walk:
             raise Refusal(7, field.place, "not UTF-8 at byte %d, in %s" % (
                 field.start + error.start, f.this(field.tag))) from None
 
+    def without(self, field, byte, number, called):
+        at = self.value(field).find(byte)
+        if at >= 0:
+            raise Refusal(number, field.place, "a %s at byte %d, in %s" % (
+                called, field.start + at, f.this(field.tag)))
+
     def anchor_bytes(self, field):
         self.utf8(field)
-        quote = self.value(field).find(b'"')
-        if quote >= 0:
-            raise Refusal(9, field.place, "a '\"' at byte %d, in %s" % (
-                field.start + quote, f.this(field.tag)))
+        self.without(field, b'"', 9, "'\"'")
+
+    def text_bytes(self, field):
+        self.utf8(field)
+        if self.strict:
+            self.without(field, b"\0", 14, "NUL")
 
     CONTENT = {
         f.TEXT: text,
         f.ANCHOR: anchor,
         f.INDENTED: block,
         f.INLINE_OR_INDENTED: block,
-        f.IF_BLOCK: utf8,
+        f.IF_BLOCK: text_bytes,
         f.FRAGMENT: fragment,
         f.STYLES: styles,
-        f.TEXT_BYTES: utf8,
+        f.TEXT_BYTES: text_bytes,
         f.DEFINITION: anchor_bytes,
         f.USE: anchor_bytes,
         f.OPACITY: opacity,
