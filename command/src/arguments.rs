@@ -52,15 +52,20 @@ pub struct Html {
     /// Print the body alone, one `pre` element, to stand in a document that has the style element
     #[arg(long)]
     body: bool,
+    /// Write a CR of a text as `&#13;` and refuse a NUL in a text: a browser then gives the plain page back byte for byte
+    #[arg(long)]
+    strict: bool,
     #[command(flatten)]
     pub printing: Printing,
 }
 
 impl Html {
     pub fn product(&self) -> Product {
-        self.printing.product(match self.body {
-            true => Kind::Body,
-            false => Kind::Document,
+        self.printing.product(match (self.body, self.strict) {
+            (true, false) => Kind::Body,
+            (false, false) => Kind::Document,
+            (true, true) => Kind::StrictBody,
+            (false, true) => Kind::StrictDocument,
         })
     }
 }
@@ -96,6 +101,9 @@ pub struct Files {
 
 #[derive(Args)]
 pub struct Check {
+    /// Refuse what `html --strict` refuses: a NUL in a text too
+    #[arg(long)]
+    pub strict: bool,
     /// The fragment files; `-` or nothing is standard input
     #[arg(value_name = "FILE")]
     pub files: Vec<PathBuf>,

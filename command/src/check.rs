@@ -1,12 +1,14 @@
 //! `hazomeny check`: a line for each file.
 
+use crate::arguments::Check;
 use crate::failure::{Failure, Status};
 use crate::input::Source;
 use crate::output;
-use std::path::PathBuf;
+use hazomeny::{check_file, check_file_strict};
 
-pub fn check(files: Vec<PathBuf>) -> Result<Status, Failure> {
-    let mut sources: Vec<_> = files
+pub fn check(asked: Check) -> Result<Status, Failure> {
+    let mut sources: Vec<_> = asked
+        .files
         .into_iter()
         .map(|path| Source::of(Some(path)))
         .collect();
@@ -15,7 +17,7 @@ pub fn check(files: Vec<PathBuf>) -> Result<Status, Failure> {
     }
     let mut worst = Status::Done;
     for source in sources {
-        if let Err(failure) = one(&source) {
+        if let Err(failure) = one(&source, asked.strict) {
             worst = worst.max(failure.tell());
         } else {
             output::standard(&[&source.name()[..], b": accepted\n"].concat())?;
@@ -24,9 +26,13 @@ pub fn check(files: Vec<PathBuf>) -> Result<Status, Failure> {
     Ok(worst)
 }
 
-fn one(source: &Source) -> Result<(), Failure> {
+fn one(source: &Source, strict: bool) -> Result<(), Failure> {
     let file = source.read()?;
-    match hazomeny::check_file(&file) {
+    let checked = match strict {
+        true => check_file_strict(&file),
+        false => check_file(&file),
+    };
+    match checked {
         Ok(_) => Ok(()),
         Err(refusal) => Err(Failure::refused(&source.name(), refusal, &file)),
     }

@@ -38,7 +38,7 @@ fn run(task: Task) -> Result<Status, Failure> {
     match task {
         Task::Print(asked) => make::make(asked.product(Kind::Plain), &asked.files),
         Task::Html(asked) => make::make(asked.product(), &asked.printing.files),
-        Task::Check(asked) => check::check(asked.files),
+        Task::Check(asked) => check::check(asked),
         Task::Layout(asked) => layout::layout(asked),
         Task::Mask(asked) => make::make(Product::Mask, &asked),
         Task::Completion { shell } => output::standard(&completion(shell)),

@@ -7,7 +7,7 @@ const HEADER: usize = 3;
 
 /// The field that a refusal is about, where it is about one of the file.
 pub fn described(refusal: Refusal, file: &[u8]) -> Option<String> {
-    let in_file = matches!(refusal.number, 3..=9);
+    let in_file = matches!(refusal.number, 3..=9 | Refusal::NUL_IN_TEXT);
     let field = file.get(refusal.place..).filter(|_| in_file)?;
     let tag = *field.first()?;
     let name = name(tag);

@@ -11,7 +11,7 @@ pub enum Product {
 }
 
 impl Product {
-    /// Has it made of the file, which is laid out for a page. A refusal leaves the file as it was.
+    /// Has it made of the file, which is laid out for a page.
     pub fn of(self, file: &mut [u8]) -> Result<Vec<u8>, Refusal> {
         match self {
             Self::Page(kind, width) => kind.of(file, width),

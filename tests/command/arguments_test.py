@@ -29,6 +29,8 @@ class Arguments(Case):
             [], ["nonsense"], ["print", "--nonsense"], ["print", "-w", "wide", CALL], ["print", "-w", "-1", CALL], ["print", "-w", "", CALL],
             ["print", ""], ["print", CALL, CALL], ["print", "-j", "0", CALL], ["html", "-o", "", CALL], ["layout", CALL],
             ["mask", "-w", "7", CALL], ["mask", CALL, CALL], ["mask", "-o", "", CALL], ["completion"], ["completion", "tcl"], ["manual", "more"],
+            ["print", "--strict", CALL], ["layout", "--strict", "-o", "-", CALL], ["mask", "--strict", CALL], ["--strict", "html", CALL],
+            ["html", "--strict", "--strict", CALL], ["html", "--strict=no", CALL], ["check", "--stricter", CALL],
         ]
         for arguments in wrong:
             with self.subTest(arguments):
@@ -55,7 +57,7 @@ class Arguments(Case):
         self.assertTrue(manual.startswith(b".TH HAZOMENY 1 "))
         for task in TASKS:
             self.assertIn(b"\n.SS hazomeny %s" % task.encode(), manual)
-        for option in (rb"\fB\-w\fR, \fB\-\-width\fR \fIWIDTH\fR", rb"\fB\-\-body\fR", rb"[default: 80]"):
+        for option in (rb"\fB\-w\fR, \fB\-\-width\fR \fIWIDTH\fR", rb"\fB\-\-body\fR", rb"\fB\-\-strict\fR", rb"[default: 80]"):
             self.assertIn(option, manual)
         if shutil.which("groff"):
             told = subprocess.run(["groff", "-man", "-ww", "-Tascii"], input=manual, stdout=subprocess.PIPE, stderr=subprocess.PIPE)

@@ -12,6 +12,9 @@ ROOT = pathlib.Path(__file__).resolve().parents[2]
 SAMPLES = ROOT / "samples"
 CALL = SAMPLES / "call.fragment"
 QUOTED = SAMPLES / "refused" / "9-quote-in-anchor.fragment"
+WITH_NUL = SAMPLES / "refused" / "14-nul-in-text.fragment"
+NUL = b"refused 14 at 10: NUL in a text (text bytes, tag 17, length 2)\n"
+RETURNS = SAMPLES / "returns.fragment"
 QUOTE = b"refused 9 at 3: quote in an anchor's name (anchor definition, tag 18, length 8)\n"
 
 # No name that a path may have is special: a space, bytes that are no UTF-8, what a shell would take.

@@ -111,8 +111,8 @@ class Pages(Case):
                 self.ends(["check", path], out=name + b": accepted\n")
                 self.ends(["print", path])
             else:
-                for task in ("check", "print", "html", "mask"):
-                    self.ends([task, path], 1, b"", b"%s: refused %s\n" % (name, refusal.encode()))
+                for task in (["check"], ["check", "--strict"], ["print"], ["html"], ["html", "--strict"], ["mask"]):
+                    self.ends([*task, path], 1, b"", b"%s: refused %s\n" % (name, refusal.encode()))
 
     def test_names_cannot_move_the_cursor(self):
         path = self.file("a\n\x1b[2J", b"\x63")

@@ -28,7 +28,7 @@ class Samples(Case):
         self.same("refusals that have a sample", numbers, NUMBERS)
 
     def same_as_built(self, notation, strict, answer):
-        """`answer` is the check's, and what it is for strict HTML."""
+        """`answer` is the check's, and `strict` that for strict HTML."""
         stored = notation.with_suffix(".fragment").read_bytes()
         status, built, warning = command("build", notation)
         self.same("%s builds to the file beside it" % notation.name, (status, built), (0, stored))
