@@ -1,15 +1,19 @@
 """The documents to open, made by the proved programs, and what a browser must make of them."""
 
 import collections
+import functools
+import itertools
 import pathlib
 import re
 import subprocess
+
+import returns
 
 HERE = pathlib.Path(__file__).resolve().parent
 ROOT = HERE.parent.parent
 OUT = ROOT / "target" / "browser"
 
-# No text of these holds a CR or a NUL: a browser reads the first as a newline and leaves the second out, so no document can give them back.
+# No text of these holds a CR or a NUL: a browser reads the first as a newline and leaves the second out.
 SAMPLES = ("call", "layout", "shader", "styles", "underline")
 
 Document = collections.namedtuple("Document", "name file page html path")
@@ -23,15 +27,24 @@ QUOTED = re.compile(r'"[^"]*"')
 
 
 def make(widths):
-    """Every file's document at each of these widths."""
+    """Documents at each of these widths that give their pages back: today's, and the strict ones of files with a CR in a text."""
+    yield from made("html", files(), widths)
+    yield from made("html_strict", returns.with_returns(), widths)
+
+
+def make_spoiled(widths):
+    """Documents that do not: today's of files with a CR or a NUL in a text."""
+    yield from made("html", itertools.chain(returns.with_returns(), returns.with_nuls()), widths)
+
+
+def made(kind, files, widths):
+    """The document that this program prints of each of the files."""
     OUT.mkdir(parents=True, exist_ok=True)
-    programs = program("page"), program("html")
-    for name, file in files():
-        for width in widths:
-            page, html = (printed(each, width, file) for each in programs)
-            path = OUT / f"{name}-{width}.html"
-            path.write_bytes(html)
-            yield Document(f"{name} at {width}", file, decoded(page), decoded(html), path)
+    for (name, file), width in itertools.product(files, widths):
+        page, html = (printed(program(each), width, file) for each in ("page", kind))
+        path = OUT / f"{kind}-{name.replace(' ', '-')}-{width}.html"
+        path.write_bytes(html)
+        yield Document(f"{kind}: {name} at {width}", file, decoded(page), decoded(html), path)
 
 
 def files():
@@ -40,6 +53,7 @@ def files():
     yield "hostile", subprocess.run([ROOT / "tools" / "frag", "build", HERE / "hostile.frag"], stdout=subprocess.PIPE, check=True).stdout
 
 
+@functools.cache
 def program(name):
     """The command that runs a proved program."""
     return subprocess.run([ROOT / "tools" / "program", name], stdout=subprocess.PIPE, check=True, text=True).stdout.split()
@@ -81,9 +95,16 @@ def written_again(html):
     """
     html = moved_newlines(html)
     pieces = TAG.split(html)
-    pieces[0::2] = [escaped(text, "\u00a0>") for text in pieces[0::2]]
+    pieces[0::2] = [escaped(text.replace("&#13;", "\r"), "\u00a0>") for text in pieces[0::2]]
     pieces[1::2] = [QUOTED.sub(lambda value: '"' + escaped(value[0][1:-1], "&\u00a0<>") + '"', tag) for tag in pieces[1::2]]
     return "".join(pieces).replace("<!doctype html>", "<!DOCTYPE html>", 1)
+
+
+def spoiled(html):
+    """The text that a browser takes from a document with CRs and NULs: it reads newlines before tags, and drops NULs behind them."""
+    read = html.replace("\r\n", "\n").replace("\r", "\n")
+    inside = re.search(r"<pre [^>]*>\n(.*)</pre>", read, re.S)[1]
+    return TAG.sub("", inside).replace("\0", "").replace("&lt;", "<").replace("&amp;", "&")
 
 
 def moved_newlines(html):
