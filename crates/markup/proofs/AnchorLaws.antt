@@ -5,7 +5,7 @@ use Rattle.rules.specs.Bytes.{ascii, join}
 use Rattle.rules.specs.Html.{id-attribute, mark-html}
 use Rattle.rules.specs.Lines.{open-anchor, close-anchor}
 use Rattle.rules.specs.Plain.{fill}
-use Rattle.markup.proofs.Fills.{fill-append, fill-makes, fill-copies}
+use Rattle.rules.proofs.Fills.{fill-append, fill-makes, fill-copies}
 
 module _ (name : List ℕ) where
   pub id-text : (definition : Bool) → definition ≡ true

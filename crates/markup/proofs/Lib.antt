@@ -1,6 +1,5 @@
 -- Laws that the proofs of the code cite.
 pub mod Joins
-pub mod Fills
 pub mod ColourLaws
 pub mod WeightLaws
 pub mod PlaceLaws
@@ -8,6 +7,3 @@ pub mod SizeLaws
 pub mod CssLaws
 pub mod TagLaws
 pub mod AnchorLaws
-pub mod EscapeLaws
-pub mod RunLaws
-pub mod ReturnLaws

@@ -1,5 +1,3 @@
 -- What the contracts say besides the rules' own words.
 pub mod Any
 pub mod Coloured
-pub mod Runs
-pub mod Returns

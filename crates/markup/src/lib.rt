@@ -1,6 +1,4 @@
-// How marks and texts are written in HTML: the tags of styles, anchors, and texts with their escapes.
+// How marks are written in HTML: the tags of styles, and anchors.
 pub mod anchors;
 mod css;
-pub mod escapes;
-pub mod strict;
 pub mod tags;

@@ -27,7 +27,7 @@ use Rattle.pages.specs.declared.frame.Kind.{Kind}
 use Rattle.pens.specs.declared.pen.Pen.{Pen}
 use Rattle.pages.proofs.OfTrees.{ops-tree}
 use Rattle.lengths.proofs.HtmlLengths.{page-most, page-short}
-use Rattle.markup.proofs.Fills.{fill-append, fill-makes}
+use Rattle.rules.proofs.Fills.{fill-append, fill-makes}
 
 -- ---- the pen over a whole file
 

@@ -7,7 +7,7 @@ use Rattle.rules.specs.Plain.{chars, fill}
 use Rattle.rules.specs.Html.{Escape, escape, strict-escape, item-html, items-html}
 use Rattle.rules.specs.Answers.{itself}
 use Rattle.writing.proofs.Laws as writing
-use Rattle.markup.proofs.Fills.{fill-append}
+use Rattle.rules.proofs.Fills.{fill-append}
 use Rattle.lines.specs.Said.{break-of, operation}
 use Rattle.lines.specs.declared.LineOp as Op
 use Rattle.pens.specs.Ops.{Ops}

@@ -7,7 +7,7 @@ use Rattle.rules.specs.Plain.{fill}
 use Rattle.rules.specs.Html.{mark-html, items-html}
 use Rattle.lines.specs.Said.{own}
 use Rattle.pens.specs.Ran.{shown}
-use Rattle.markup.proofs.Fills.{fill-makes}
+use Rattle.rules.proofs.Fills.{fill-makes}
 use Rattle.pens.proofs.Pens.{html-mark}
 use Rattle.pens.proofs.pen.put_html.Statement.{statement}
 use Rattle.pens.proofs.pen.put_html.Tie as tie

@@ -1,0 +1,3 @@
+-- What the contracts say besides the rules' own words.
+pub mod Runs
+pub mod Returns
