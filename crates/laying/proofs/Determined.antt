@@ -20,10 +20,10 @@ module _ {All : Result (Unit {0}) → Type 0} (one : (x y : Result (Unit {0})) �
           let z : refused (w .faulty .number) (w .faulty .place) ≡ accepted tt = sym (w .faulty .is) ∙ one (w .what) (accepted tt) (w .all) (B .sound (eqb-false b bad q)) in
           no-path (cc)
 
-pub rest-one : {h : Holder} {ts : List ℕ} {d before place at : ℕ} {r : List ℕ} (x y : Result (Unit {0})) → RestSaid h ts d before place at r x → RestSaid h ts d before place at r y → x ≡ y
+pub rest-one : {strict : Bool} {h : Holder} {ts : List ℕ} {d before place at : ℕ} {r : List ℕ} (x y : Result (Unit {0})) → RestSaid strict h ts d before place at r x → RestSaid strict h ts d before place at r y → x ≡ y
 rest-one x y p q = p .is ∙ sym (q .is)
 
-pub leaf-one : {t at : ℕ} {v : List ℕ} (x y : Result (Unit {0})) → ((d : ℕ) → ValueSaid t d at v x) → ((d : ℕ) → ValueSaid t d at v y) → x ≡ y
+pub leaf-one : {strict : Bool} {t at : ℕ} {v : List ℕ} (x y : Result (Unit {0})) → ((d : ℕ) → ValueSaid strict t d at v x) → ((d : ℕ) → ValueSaid strict t d at v y) → x ≡ y
 leaf-one x y p q = p 0 .is ∙ sym (q 0 .is)
 
 pub first-walk-unique : {w : ℕ} {s : List ℕ} {a b : ℕ} {ws vs : List ℕ} → FirstWalk w s a ws → FirstWalk w s b vs → (a ≡ bad → ⊥) → (b ≡ bad → ⊥) → painted ws s ≡ painted vs s

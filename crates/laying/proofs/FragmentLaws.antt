@@ -1,5 +1,5 @@
 -- The loop over a block's fragments: its start, a turn and its end.
-use Rattle.rules.proofs.Basics.{_≡_, refl, sym, ap, subst, _∙_, List, [], ℕ, _+_, _-_, _≤_, _<_, le-of-lt, arith, leb, eqb, eq-eqb, ne-eqb, length, getD, take, drop}
+use Rattle.rules.proofs.Basics.{_≡_, refl, sym, ap, subst, _∙_, List, [], false, ℕ, _+_, _-_, _≤_, _<_, le-of-lt, arith, leb, eqb, eq-eqb, ne-eqb, length, getD, take, drop}
 use lib.Seq.{slice}
 use Rattle.rules.specs.Bytes.{cap}
 use Rattle.rules.specs.Result.{Result, refused, accepted}
@@ -33,7 +33,7 @@ use Rattle.laying.proofs.StretchLaws.{whole-ends}
 pub record FragmentsAt (d i b from : ℕ) (s : List ℕ) (end : ℕ) (ws₀ : List ℕ) (at : ℕ) (h : Shape) (ws : List ℕ) : Type 0 where
   pub words : length ws ≡ length ws₀
   pub clear : Clear ws s at
-  pub come : Come Any in-block d s 0 end at (RestSaid in-block [] d 0 0 from (slice from end s))
+  pub come : Come false Any in-block d s 0 end at (RestSaid false in-block [] d 0 0 from (slice from end s))
   pub changed : ℕ
   pub laid : Part (with-fragment (fragment-in (32 - d) i b 3)) from (Inline 0 0, 0) (take end (painted ws₀ s)) at (h, changed) (take end (painted ws s))
   pub behind : drop end (painted ws s) ≡ drop end (painted ws₀ s)
@@ -43,7 +43,7 @@ fragments-start {d} C P e = record { words = refl; clear = C; come = come-first 
 
 module _ {d i b from : ℕ} {s : List ℕ} {end : ℕ} {ws₀ : List ℕ} {at : ℕ} {h : Shape} {ws : List ℕ} (p : FragmentsAt d i b from s end ws₀ at h ws) where
   -- something is wrong
-  pub fragments-wrong : Wrong (RestSaid in-block [] d 0 0 from (slice from end s)) → {ws′ : List ℕ} → length ws′ ≡ length ws → FragmentsWalked d i b from s end ws₀ bad ws′
+  pub fragments-wrong : Wrong (RestSaid false in-block [] d 0 0 from (slice from end s)) → {ws′ : List ℕ} → length ws′ ≡ length ws → FragmentsWalked d i b from s end ws₀ bad ws′
   fragments-wrong w e = record { words = e ∙ p .words; check = record { wrong = λ o. w; sound = λ n. absurd (n refl) }; laid = λ n. absurd (n refl) }
 
   -- no whole field

@@ -23,7 +23,7 @@ use Rattle.verify.specs.Glanced.{Stands}
 use Rattle.verify.proofs.Parts.{part-length}
 use Rattle.verify.proofs.TagLaws.{fragment-tags}
 use Rattle.layout.proofs.AheadLaws.{not-either}
-use Rattle.verify.proofs.ContentLaws.{calm-text}
+use Rattle.verify.proofs.ContentLaws.{calm-text, loose-text}
 use Rattle.verify.proofs.ValueLaws.{run-value, note-value, empty-value, filled-value}
 use Rattle.verify.proofs.GlanceLaws.{filled-alone}
 use Rattle.verify.proofs.SaidLaws.{faulty-said, sound-said}
@@ -99,7 +99,7 @@ module _ {s : List ℕ} {at to : ℕ} (P : Between s at (at + 3) to) where
   -- a 7 of one line
   pub note-found : {c : Bool} → Says c (Calm 10 s (at + 3) to) → c ≡ true → {x : ℕ} → x ≡ wide (to - (at + 3)) 10 → {r : ℕ} → shape r ≡ Inline x x → QuickTold s 7 at to r
   unfolding by-tag
-  note-found C y x q = record { found = λ o. found-line (λ d. note-value d _ _ refl (calm-text P (C .says y) refl)) q (lacking-if-block (P .rising) (P .ends) (no-newline C) y x refl) }
+  note-found C y x q = record { found = λ o. found-line (λ d. note-value d _ _ refl (loose-text _ _ (calm-text P (C .says y) refl) refl)) q (lacking-if-block (P .rising) (P .ends) (no-newline C) y x refl) }
 
 -- a tag of a fragment that is no other
 among : (t : ℕ) → 1 ≤ t → t ≤ 7 → (t ≡ 1 → ⊥) → (t ≡ 2 → ⊥) → (t ≡ 3 → ⊥) → (t ≡ 4 → ⊥) → (t ≡ 5 → ⊥) → (t ≡ 7 → ⊥) → t ≡ 6

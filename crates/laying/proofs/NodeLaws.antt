@@ -1,5 +1,5 @@
 -- A block at a place: too deep, with a fault inside it, indented, or decided.
-use Rattle.rules.proofs.Basics.{_≡_, refl, sym, ap, subst, _∙_, List, ℕ, _+_, _-_, _≤_, _<_, max, arith, true, length, getD}
+use Rattle.rules.proofs.Basics.{_≡_, refl, sym, ap, subst, _∙_, List, ℕ, _+_, _-_, _≤_, _<_, max, arith, true, false, length, getD}
 use lib.Seq.{slice}
 use Rattle.rules.specs.Result.{refused, accepted}
 use Rattle.rules.specs.Walk.{is-block}
@@ -37,7 +37,7 @@ module _ {d : ℕ} {s : List ℕ} {at to : ℕ} {ws : List ℕ} (C : Clear ws s 
         }
 
     module _ (o : l ≡ bad → ⊥) where
-      sound-inside : ValueSaid (getD s at 0) d at (slice (at + 3) to s) (accepted tt)
+      sound-inside : ValueSaid false (getD s at 0) d at (slice (at + 3) to s) (accepted tt)
       sound-inside = block-value _ _ _ refl k h (F .check .sound o)
 
       fragments-laid : LaidAt (fragments-in (fragment-in (32 - d - 1) i′ b′ 3)) at to (painted ws s) (shape l) (painted ws′ s)

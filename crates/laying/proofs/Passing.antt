@@ -33,17 +33,17 @@ module _ {s : List ℕ} {end t a to : ℕ} (P : Between s 0 a end) (C : Checked 
   right : (before : ℕ) → allowed in-fragment before t ≡ true
   right before = sym (node-next before t) ∙ C .right
 
-  pub node-passed : ValueSaid t d a (slice (a + 3) to s) (accepted tt) → Passed d s end a to
+  pub node-passed : ValueSaid false t d a (slice (a + 3) to s) (accepted tt) → Passed d s end a to
   node-passed W = record { onwards = λ x R before ts. whole-on P in-fragment ts d before (C .there) (right before) W (R t (ts ++ (t ∷ []))) }
 
-  pub node-wrong : Wrong (ValueSaid t d a (slice (a + 3) to s)) → Wrong (Rest d s end a)
+  pub node-wrong : Wrong (ValueSaid false t d a (slice (a + 3) to s)) → Wrong (Rest d s end a)
   node-wrong W = record { what = W .what; all = λ before ts. whole-stops P in-fragment ts d before (C .there) (right before) (W .all) (W .faulty); faulty = W .faulty }
 
   -- whatever it is itself
   node-before : Wrong (Rest d s end to) → Wrong (Rest d s end a)
-  node-before w = go (done (value-result t d a (slice (a + 3) to s))) refl
+  node-before w = go (done (value-result false t d a (slice (a + 3) to s))) refl
     where
-      go : (x : Result (Unit {0})) → x ≡ done (value-result t d a (slice (a + 3) to s)) → Wrong (Rest d s end a)
+      go : (x : Result (Unit {0})) → x ≡ done (value-result false t d a (slice (a + 3) to s)) → Wrong (Rest d s end a)
       go (refused n p) e = node-wrong (record { what = refused n p; all = record { is = e }; faulty = record { number = n; place = p; is = refl } })
       go (accepted tt) e = passed-wrong (node-passed (record { is = e })) w
 

@@ -1,5 +1,5 @@
 -- Layout of a whole file: what is refused, and what an accepted file becomes.
-use Rattle.rules.proofs.Basics.{_≡_, refl, sym, ap, _∙_, List, [], ℕ, _*_, _≤_, arith, length, take, le-leb, take-all}
+use Rattle.rules.proofs.Basics.{_≡_, refl, sym, ap, _∙_, List, [], false, ℕ, _*_, _≤_, arith, length, take, le-leb, take-all}
 use lib.Seq.{slice, take-length}
 use Rattle.rules.specs.Limits.{most-bytes, most-columns}
 use Rattle.rules.specs.Bytes.{newline}
@@ -33,12 +33,12 @@ module _ (w : ℕ) (s : List ℕ) (h : length s ≤ most-bytes) (g : w ≤ most-
   checked-outcome = rw (le-leb (length s) most-bytes h, le-leb w most-columns g) refl
 
   -- the walk finds a fault: the check refuses the file
-  wrong-outcome : Wrong (RestSaid in-fragment [] 0 0 0 0 (slice 0 (length s) s)) → (x : Result ℕ) → x ≡ check-answer s → (x, s) ≡ layout-outcome w s
+  wrong-outcome : Wrong (RestSaid false in-fragment [] 0 0 0 0 (slice 0 (length s) s)) → (x : Result ℕ) → x ≡ check-answer s → (x, s) ≡ layout-outcome w s
   unfolding left-laid _>>=_ check-answer-by counted
   wrong-outcome W x e = go (tree s) refl
     where
       refuses : refused (W .faulty .number) (W .faulty .place) ≡ check-answer s
-      refuses = sym (ap counted (W .faulty .is)) ∙ walk-answers s h (W .all)
+      refuses = sym (ap counted (W .faulty .is)) ∙ walk-answers false s h (W .all)
 
       go : (y : Result (Frag ℕ)) → tree s ≡ y → (x, s) ≡ layout-outcome w s
       go (refused n p) f = ap (λ x. (x, s)) (e ∙ ap (λ x. x >>= (λ t. accepted 0)) f) ∙ sym (checked-outcome ∙ ap (λ x. left-laid s (x >>= (λ t. accepted (layout newline w t)))) f)
@@ -47,11 +47,11 @@ module _ (w : ℕ) (s : List ℕ) (h : length s ≤ most-bytes) (g : w ≤ most-
           no-path (cc)
 
   -- it finds none: the file is laid out as its tree is
-  laid-outcome : Bytes s → RestSaid in-fragment [] 0 0 0 0 (slice 0 (length s) s) (accepted tt) → {m : ℕ} → m ≡ 10 * w → {l : Laid} {s′ : List ℕ} → Is (fragment-in 32 m m 0 s) l s′
+  laid-outcome : Bytes s → RestSaid false in-fragment [] 0 0 0 0 (slice 0 (length s) s) (accepted tt) → {m : ℕ} → m ≡ 10 * w → {l : Laid} {s′ : List ℕ} → Is (fragment-in 32 m m 0 s) l s′
       → (accepted (length (changed 0 s s′)), s′) ≡ layout-outcome w s
   unfolding left-laid _>>=_ counted said
   laid-outcome b R {m} k {l} {s′} i =
-      let A : AcceptedAs s = accepted-as s (Done 0) b refl (walk-answers s h R) in
+      let A : AcceptedAs s = accepted-as s (Done 0) b refl (walk-answers false s h R) in
       let t : Frag ℕ = A .root in
       let x : fragment-in 32 m m 0 s ≡ fragment-in 32 (10 * w) (10 * w) 0 (encode t) = rw (k, A .read .encodes) refl in
       let bytes : s′ ≡ encode (layout newline w t) = i .bytes ∙ ap (λ x. x .1) x ∙ laid-tree rigid-leaf w t (A .read .good) .0 in

@@ -40,7 +40,7 @@ pub record Tells (r : ℕ) (All : Result (Unit {0}) → Type 0) : Type 0 where
 -- ---- a leaf, from `at` to `to`
 
 abbrev pub LeafSaid : (s : List ℕ) (t at to : ℕ) → Result (Unit {0}) → Type 0
-LeafSaid s t at to x = (d : ℕ) → ValueSaid t d at (slice (at + 3) to s) x
+LeafSaid s t at to x = (d : ℕ) → ValueSaid false t d at (slice (at + 3) to s) x
 
 -- the tag of a leaf that has a value
 pub record Valued (t : ℕ) : Type 0 where
@@ -64,7 +64,7 @@ pub record NodeTold (s : List ℕ) (t at to r : ℕ) : Type 0 where
 
 -- what is left from `at` on says x
 abbrev pub Rest : (d : ℕ) (s : List ℕ) (end at : ℕ) → Result (Unit {0}) → Type 0
-Rest d s end at x = (before : ℕ) (ts : List ℕ) → RestSaid in-fragment ts d before 0 at (slice at end s) x
+Rest d s end at x = (before : ℕ) (ts : List ℕ) → RestSaid false in-fragment ts d before 0 at (slice at end s) x
 
 -- what is left from a on says what is left from b on says
 pub record Passed (d : ℕ) (s : List ℕ) (end a b : ℕ) : Type 0 where

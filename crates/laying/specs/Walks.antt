@@ -31,7 +31,7 @@ pub record Decided (ws : List ℕ) (at i : ℕ) (so-far own : Shape) (r : ℕ) (
 -- a block at the maxima i and b, inside d blocks
 pub record NodeWalked (d i b : ℕ) (so-far : Shape) (s : List ℕ) (at to : ℕ) (ws : List ℕ) (r : ℕ) (ws′ : List ℕ) : Type 0 where
   pub words : length ws′ ≡ length ws
-  pub check : Tells r (ValueSaid (getD s at 0) d at (slice (at + 3) to s))
+  pub check : Tells r (ValueSaid false (getD s at 0) d at (slice (at + 3) to s))
   pub laid : (r ≡ bad → ⊥) → LaidAt (flex-in (32 - d) i b so-far) at to (painted ws s) (shape r) (painted ws′ s)
 
 -- a block's fragments, from `from` on
@@ -40,7 +40,7 @@ fragments-from g from h = over (with-fragment g) from (Inline 0 0, 0) h
 
 pub record FragmentsWalked (d i b from : ℕ) (s : List ℕ) (end : ℕ) (ws : List ℕ) (r : ℕ) (ws′ : List ℕ) : Type 0 where
   pub words : length ws′ ≡ length ws
-  pub check : Tells r (RestSaid in-block [] d 0 0 from (slice from end s))
+  pub check : Tells r (RestSaid false in-block [] d 0 0 from (slice from end s))
   pub laid : (r ≡ bad → ⊥) → LaidTo (fragments-from (fragment-in (32 - d) i b 3) from) end (painted ws s) (shape r) (painted ws′ s)
 
 -- the nodes of a stretch from a to b
@@ -58,5 +58,5 @@ pub record StretchWalked (d i b first bound : ℕ) (so-far : Shape) (s : List �
 -- the nodes of a fragment
 pub record FragmentWalked (d i b from : ℕ) (s : List ℕ) (end : ℕ) (ws : List ℕ) (r : ℕ) (ws′ : List ℕ) : Type 0 where
   pub words : length ws′ ≡ length ws
-  pub check : Tells r (RestSaid in-fragment [] d 0 0 from (slice from end s))
+  pub check : Tells r (RestSaid false in-fragment [] d 0 0 from (slice from end s))
   pub laid : (r ≡ bad → ⊥) → LaidTo (fragment-in (32 - d) i b from) end (painted ws s) (shape r) (painted ws′ s)

@@ -14,6 +14,7 @@ use verify::inner::check_text_fields;
 use verify::verdict::SOUND;
 use verify::verdict::Verdict;
 ghost use mathlib.Core.Path.{_≡_};
+ghost use mathlib.Core.Bool.{false};
 ghost use Prim.Native.Nat.{ℕ, _+_};
 ghost use lib.Seq.{slice};
 ghost use Rattle.verify.specs.Said.{verdict};
@@ -26,16 +27,16 @@ const BYTE: u16 = 10;
 // The check of a 1, a 2 or a 7. It stands here as well as in `verify`, where it is one function with the node around it as long as nothing else calls it.
 fn check_value(s: &[u8], at: usize, to: usize, tag: u8) -> Verdict
     requires { ⌜ Leaf (now s) tag at to × Valued tag ⌝ }
-    ensures { λ r. ⌜ ((d : ℕ) → ValueSaid tag d at (slice (at + 3) to (now (s .entry))) (verdict r)) ⌝ }
+    ensures { λ r. ⌜ ((d : ℕ) → ValueSaid false tag d at (slice (at + 3) to (now (s .entry))) (verdict r)) ⌝ }
 {
     let from = at + 3;
     if tag == 1 {
-        return check_text_fields(s, from, to, at);
+        return check_text_fields(s, from, to, at, false);
     }
     if tag == 2 {
-        return check_anchor_fields(s, from, to, at);
+        return check_anchor_fields(s, from, to, at, false);
     }
-    check_text(s, from, to, at)
+    check_text(s, from, to, at, false)
 }
 
 // Any of these, from `at` to `to`: the check, then the layout.

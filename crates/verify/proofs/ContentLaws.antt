@@ -1,12 +1,12 @@
 -- The content of a value of bytes, by its tag and by what the tests say.
-use Rattle.rules.proofs.Basics.{_≡_, refl, sym, _∙_, List, Bool, true, false, ℕ, _+_, _-_, _*_, _≤_, _<_, arith, leb, eqb, length, getD, take, drop, le-leb, lt-leb, ne-eqb, eq-eqb, eqb-true}
+use Rattle.rules.proofs.Basics.{_≡_, refl, sym, _∙_, ap₂, List, [], _∷_, Bool, true, false, not, ℕ, _+_, _-_, _*_, _≤_, _<_, arith, leb, eqb, length, getD, take, drop, le-leb, lt-leb, ne-eqb, eq-eqb, eqb-true}
 use lib.Seq.{slice}
 use Rattle.rules.proofs.Lengths.{number-one, number-four}
 use Rattle.rules.specs.Limits.{first-style}
 use Rattle.rules.specs.Bytes.{has, number}
 use Rattle.rules.specs.Utf8.{utf8}
-use Rattle.rules.specs.Result.{Result, refused, accepted, _>>_, need, sound}
-use Rattle.rules.specs.Walk.{text-content, anchor-content, content, right-length, right-opacity, right-size}
+use Rattle.rules.specs.Result.{Result, refused, accepted, _>>_, need, _or-refuse_, sound}
+use Rattle.rules.specs.Walk.{text-content, anchor-content, content, is-text, strict-content, content-in, right-length, right-opacity, right-size}
 use Rattle.rules.proofs.Chains.{no-path}
 use Rattle.looks.specs.Calm.{Calm}
 use Rattle.looks.proofs.CalmBytes.{calm-utf8, calm-lacks}
@@ -28,6 +28,9 @@ if-broken true e = no-path (cc)
 if-broken false e = refl
 
 -- the bytes of a part, as they are lent
+lent-has : {s : List ℕ} {place from to : ℕ} → Between s place from to → (n : ℕ) {b : Bool} → b ≡ has n (take (to - from) (drop from s)) → has n (slice from to s) ≡ b
+lent-has {s} {from = from} {to} P n f = sym (rw (sliced s from to (P .rising)) at f)
+
 module _ {s : List ℕ} {place from to : ℕ} (P : Between s place from to) {u : Utf8} (e : u ≡ utf8-answer (take (to - from) (drop from s))) where
   is-sound : u ≡ Sound → utf8 (slice from to s) ≡ true
   unfolding utf8-answer
@@ -36,9 +39,6 @@ module _ {s : List ℕ} {place from to : ℕ} (P : Between s place from to) {u :
   is-broken : u ≡ Broken → utf8 (slice from to s) ≡ false
   unfolding utf8-answer
   is-broken w = if-broken (utf8 (slice from to s)) (sym (rw (sliced s from to (P .rising)) at e) ∙ w)
-
-  quote : {b : Bool} → b ≡ has 34 (take (to - from) (drop from s)) → has 34 (slice from to s) ≡ b
-  quote f = sym (rw (sliced s from to (P .rising)) at f)
 
   module _ {x : Result (Unit {0})} where
     pub broken-text : u ≡ Broken → x ≡ refused 7 place → x ≡ sound (text-content (slice from to s)) place
@@ -56,11 +56,37 @@ module _ {s : List ℕ} {place from to : ℕ} (P : Between s place from to) {u :
     module _ (w : u ≡ Sound) {b : Bool} (f : b ≡ has 34 (take (to - from) (drop from s))) where
       pub quoted-name : b ≡ true → x ≡ refused 9 place → x ≡ sound (anchor-content (slice from to s)) place
       unfolding sound need _>>_ anchor-content
-      quoted-name z q = simp (is-sound w, quote f, z) q
+      quoted-name z q = simp (is-sound w, lent-has P 34 f, z) q
 
       pub sound-name : b ≡ false → x ≡ accepted tt → x ≡ sound (anchor-content (slice from to s)) place
       unfolding sound need _>>_ anchor-content
-      sound-name z q = simp (is-sound w, quote f, z) q
+      sound-name z q = simp (is-sound w, lent-has P 34 f, z) q
+
+-- a text by its bytes alone, and in strict mode
+one-more : (a b : Bool) (p : ℕ) → (sound (a or-refuse 7 ∷ []) p >> need b 14 p) ≡ sound (a or-refuse 7 ∷ b or-refuse 14 ∷ []) p
+unfolding sound need _>>_
+one-more false b p = refl
+one-more true false p = refl
+one-more true true p = refl
+
+module _ {strict : Bool} (v : List ℕ) (p : ℕ) {x : Result (Unit {0})} (e : x ≡ sound (text-content v) p) where
+  pub loose-text : strict ≡ false → x ≡ sound (content-in strict 17 v) p
+  unfolding content
+  loose-text q = rw q e
+
+  pub strict-text : strict ≡ true → {y z : Result (Unit {0})} → y ≡ need (not (has 0 v)) 14 p → z ≡ (x >> y) → z ≡ sound (content-in strict 17 v) p
+  unfolding strict-content is-text content text-content
+  strict-text q f g = rw q (g ∙ ap₂ (λ x y. x >> y) e f ∙ one-more (utf8 v) (not (has 0 v)) p)
+
+-- a NUL in it
+module _ {s : List ℕ} {place from to : ℕ} (P : Between s place from to) {b : Bool} (f : b ≡ has 0 (take (to - from) (drop from s))) {x : Result (Unit {0})} where
+  pub a-nul : b ≡ true → x ≡ refused 14 place → x ≡ need (not (has 0 (slice from to s))) 14 place
+  unfolding need
+  a-nul z q = simp (lent-has P 0 f, z) q
+
+  pub no-nul : b ≡ false → x ≡ accepted tt → x ≡ need (not (has 0 (slice from to s))) 14 place
+  unfolding need
+  no-nul z q = simp (lent-has P 0 f, z) q
 
 -- bytes that are UTF-8
 pub utf8-text : (v : List ℕ) (p : ℕ) {x : Result (Unit {0})} → utf8 v ≡ true → x ≡ accepted tt → x ≡ sound (text-content v) p

@@ -1,5 +1,5 @@
 -- No second answer satisfies the contracts of this crate. Most are equations of the answer; these are those that are not, as they stand.
-use Rattle.rules.proofs.Basics.{_≡_, refl, sym, _∙_, List, ℕ, zero, suc, _/_, _%_, arith}
+use Rattle.rules.proofs.Basics.{_≡_, refl, sym, _∙_, List, Bool, ℕ, zero, suc, _/_, _%_, arith}
 use Rattle.rules.specs.Walk.{Holder}
 use Rattle.rules.proofs.Chains.{no-path}
 use Rattle.verify.specs.declared.style.Styled.{Styled}
@@ -18,7 +18,7 @@ verdict-unique (suc a) (suc b) e =
     let p : suc a / 256 ≡ suc b / 256 = cc in
     omega (arith, n, p)
 
-pub rest-unique : {h : Holder} {ts : List ℕ} {d before place at : ℕ} {r : List ℕ} (a b : ℕ) → RestSaid h ts d before place at r (verdict a) → RestSaid h ts d before place at r (verdict b) → a ≡ b
+pub rest-unique : {strict : Bool} {h : Holder} {ts : List ℕ} {d before place at : ℕ} {r : List ℕ} (a b : ℕ) → RestSaid strict h ts d before place at r (verdict a) → RestSaid strict h ts d before place at r (verdict b) → a ≡ b
 rest-unique a b x y = verdict-unique a b (x .is ∙ sym (y .is))
 
 -- and so with what is said of a style's field

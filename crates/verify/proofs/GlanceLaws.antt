@@ -18,7 +18,7 @@ use Rattle.verify.specs.Glanced.{Stands, Passed, PassedRight, Upto, Righ
 use Rattle.verify.proofs.Parts.{sliced}
 use Rattle.verify.proofs.TagLaws.{by-test, never, styles-rise, length-flag}
 use Rattle.verify.proofs.SeenLaws.{has-last, no-style}
-use Rattle.verify.proofs.ContentLaws.{by-content, no-content, opacity-sound, size-sound, utf8-text, if-sound}
+use Rattle.verify.proofs.ContentLaws.{by-content, no-content, opacity-sound, size-sound, loose-text, utf8-text, if-sound}
 use Rattle.verify.proofs.ValueLaws.{style-value}
 use Rattle.verify.proofs.RestLaws.{At, field-there, value-part, rest-part, rest-none, whole-on}
 use Rattle.verify.proofs.TextLaws.{last-text, styled-text}
@@ -99,7 +99,7 @@ right-there e =
 -- a right field, then what is left behind it
 module _ {s : List ℕ} {place at stop t to m before : ℕ} {ts : List ℕ} (P : Between s place at stop) (U : Upto m before ts) (l : m < t) (F : Fits t ts) (f : first-style ≤ t) (g : t ≤ last-style)
     (R : PassedRight s stop t at to) (n : to ≡ at → ⊥) (d : ℕ) where
-  one-right : (Upto t t (ts ++ (t ∷ [])) → Between s place to stop → RestSaid in-styles (ts ++ (t ∷ [])) d t place to (slice to stop s) (accepted tt)) → RestSaid in-styles ts d before place at (slice at stop s) (accepted tt)
+  one-right : (Upto t t (ts ++ (t ∷ [])) → Between s place to stop → RestSaid false in-styles (ts ++ (t ∷ [])) d t place to (slice to stop s) (accepted tt)) → RestSaid false in-styles ts d before place at (slice at stop s) (accepted tt)
   one-right k =
       let A = standing P (R .there n) (R .inside) in
       whole-on P in-styles ts d before A (rises U l f g) (style-value d at _ before (rises U l f g) (R .right n at)) (k (upto-more U l F) (rest-part P A))
@@ -183,7 +183,7 @@ module _ {s : List ℕ} {stop from coloured : ℕ} (h : stop < length s) (Q : Pa
 
   -- an opacity may stand behind a colour alone
   pub right-from-opacity : (coloured ≡ from → ⊥) → {at : ℕ} → PassedRight s stop 33 coloured at → RightFrom 33 s stop at → (d place : ℕ) → Between s place from stop
-      → RestSaid in-styles [] d 0 place from (slice from stop s) (accepted tt)
+      → RestSaid false in-styles [] d 0 place from (slice from stop s) (accepted tt)
   unfolding has
   right-from-opacity n {at} O W d place P =
       one-right P upto-none (omega arith) (free 32 (λ e. omega (arith, e)) (λ e. omega (arith, e)) []) (omega arith) (omega arith) (plain-right h Q plain-colour) n d
@@ -202,15 +202,15 @@ pub fill-said : (s : List ℕ) (at end : ℕ) {a b : ℕ} → getD s at 0 ≡ 17
 fill-said s at end {a} {b} t p q h = record { says = λ e. record { tag = t; ends = omega (arith, eqb-true (a * 256 + b) (end - at - 3) e, p, q) } }
 
 module _ {s : List ℕ} {place at end : ℕ} (P : Between s place at end) (S : Stands s 17 at end) (u : utf8 (slice (at + 3) end s) ≡ true) (d : ℕ) where
-  filled : (before : ℕ) (ts : List ℕ) → TextLeft before ts s at end → RestSaid in-text ts d before place at (slice at end s) (accepted tt)
-  filled before ts L = last-text P (standing P S (omega arith)) d before ts L refl (utf8-text _ at u refl) refl (omega arith) refl
+  filled : (before : ℕ) (ts : List ℕ) → TextLeft before ts s at end → RestSaid false in-text ts d before place at (slice at end s) (accepted tt)
+  filled before ts L = last-text P (standing P S (omega arith)) d before ts L refl (loose-text _ at (utf8-text _ at u refl) refl) refl (omega arith) refl
 
-  pub filled-alone : RestSaid in-text [] d 0 place at (slice at end s) (accepted tt)
+  pub filled-alone : RestSaid false in-text [] d 0 place at (slice at end s) (accepted tt)
   filled-alone = filled 0 [] (no-style (λ l q. omega (arith, q, S .tag)))
 
 -- a 16 that is right, then the 17
-pub styled-right : {s : List ℕ} {from end stop : ℕ} → Stands s 16 from stop → stop ≤ end → ((d place : ℕ) → Between s place (from + 3) stop → RestSaid in-styles [] d 0 place (from + 3) (slice (from + 3) stop s) (accepted tt))
-    → Stands s 17 stop end → utf8 (slice (stop + 3) end s) ≡ true → (d place : ℕ) → Between s place from end → RestSaid in-text [] d 0 place from (slice from end s) (accepted tt)
+pub styled-right : {s : List ℕ} {from end stop : ℕ} → Stands s 16 from stop → stop ≤ end → ((d place : ℕ) → Between s place (from + 3) stop → RestSaid false in-styles [] d 0 place (from + 3) (slice (from + 3) stop s) (accepted tt))
+    → Stands s 17 stop end → utf8 (slice (stop + 3) end s) ≡ true → (d place : ℕ) → Between s place from end → RestSaid false in-text [] d 0 place from (slice from end s) (accepted tt)
 styled-right S h R T u d place P =
     let A = standing P S h in
     styled-text P A d refl (R d _ (value-part P A)) refl (filled (rest-part P A) T u d)

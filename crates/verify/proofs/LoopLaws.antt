@@ -12,18 +12,18 @@ use Rattle.verify.proofs.SaidLaws.{Faulty}
 use Rattle.verify.proofs.RestLaws.{At, rest-part, rest-none, rest-short, whole-wrong, whole-stops, whole-on}
 
 -- the loop has come to `at`: what is left there says what all fields do (All). K holds of the last tag and the tags so far
-pub record Come (K : ℕ → List ℕ → Type 0) (h : Holder) (d : ℕ) (s : List ℕ) (place end at : ℕ) (All : Result (Unit {0}) → Type 0) : Type 0 where
+pub record Come (strict : Bool) (K : ℕ → List ℕ → Type 0) (h : Holder) (d : ℕ) (s : List ℕ) (place end at : ℕ) (All : Result (Unit {0}) → Type 0) : Type 0 where
   pub part : Between s place at end
   pub before : ℕ
   pub so-far : List ℕ
   pub keeps : K before so-far
-  pub onwards : (x : Result (Unit {0})) → RestSaid h so-far d before place at (slice at end s) x → All x
+  pub onwards : (x : Result (Unit {0})) → RestSaid strict h so-far d before place at (slice at end s) x → All x
 
-pub come-first : {K : ℕ → List ℕ → Type 0} {s : List ℕ} {place end at : ℕ} (h : Holder) (d before : ℕ) (ts : List ℕ) → Between s place at end → K before ts
-    → Come K h d s place end at (RestSaid h ts d before place at (slice at end s))
+pub come-first : {strict : Bool} {K : ℕ → List ℕ → Type 0} {s : List ℕ} {place end at : ℕ} (h : Holder) (d before : ℕ) (ts : List ℕ) → Between s place at end → K before ts
+    → Come strict K h d s place end at (RestSaid strict h ts d before place at (slice at end s))
 come-first h d before ts P k = record { part = P; before = before; so-far = ts; keeps = k; onwards = λ x R. R }
 
-module _ {K : ℕ → List ℕ → Type 0} {h : Holder} {d : ℕ} {s : List ℕ} {place end at : ℕ} {All : Result (Unit {0}) → Type 0} (C : Come K h d s place end at All) where
+module _ {strict : Bool} {K : ℕ → List ℕ → Type 0} {h : Holder} {d : ℕ} {s : List ℕ} {place end at : ℕ} {All : Result (Unit {0}) → Type 0} (C : Come strict K h d s place end at All) where
   -- the end: what the tags have together answers
   pub come-last : {x : Result (Unit {0})} → end ≤ at → x ≡ sound (complete h (C .so-far)) place → All x
   come-last l e = C .onwards _ (rest-none (C .part) h (C .so-far) d (C .before) l e)
@@ -39,10 +39,10 @@ module _ {K : ℕ → List ℕ → Type 0} {h : Holder} {d : ℕ} {s : List ℕ}
     come-wrong a q = C .onwards _ (whole-wrong (C .part) h (C .so-far) d (C .before) A a q)
 
     module _ (a : allowed h (C .before) t ≡ true) where
-      pub come-stops : {x : Result (Unit {0})} → ValueSaid t d at (slice from to s) x → Faulty x → All x
+      pub come-stops : {x : Result (Unit {0})} → ValueSaid strict t d at (slice from to s) x → Faulty x → All x
       come-stops W F = C .onwards _ (whole-stops (C .part) h (C .so-far) d (C .before) A a W F)
 
-      pub come-on : {K′ : ℕ → List ℕ → Type 0} → ValueSaid t d at (slice from to s) (accepted tt) → K′ t (C .so-far ++ (t ∷ [])) → Come K′ h d s place end to All
+      pub come-on : {K′ : ℕ → List ℕ → Type 0} → ValueSaid strict t d at (slice from to s) (accepted tt) → K′ t (C .so-far ++ (t ∷ [])) → Come strict K′ h d s place end to All
       come-on W k =
           record {
             part = rest-part (C .part) A;
@@ -67,7 +67,7 @@ unfolding sound
 nothing-asked h ts p e q = rw e q
 
 -- a fragment without nodes
-pub no-nodes : {s : List ℕ} {from to : ℕ} (d : ℕ) → Between s 0 from to → to ≤ from → RestSaid in-fragment [] d 0 0 from (slice from to s) (accepted tt)
+pub no-nodes : {strict : Bool} {s : List ℕ} {from to : ℕ} (d : ℕ) → Between s 0 from to → to ≤ from → RestSaid strict in-fragment [] d 0 0 from (slice from to s) (accepted tt)
 unfolding complete
 no-nodes d P l = rest-none P in-fragment [] d 0 l (nothing-asked in-fragment [] 0 refl refl)
 

@@ -69,30 +69,30 @@ tag-in s end at = getD (take end s) at 0
 abbrev next-in : List ℕ → (end at : ℕ) → ℕ
 next-in s end at = at + 3 + length-at (take end s) at
 
-module _ {s : List ℕ} {place at end : ℕ} (P : Between s place at end) (h : Holder) (ts : List ℕ) (d before : ℕ) where
+module _ {strict : Bool} {s : List ℕ} {place at end : ℕ} (P : Between s place at end) (h : Holder) (ts : List ℕ) (d before : ℕ) where
   -- nothing: what the tags have together answers
-  pub rest-none : {x : Result (Unit {0})} → end ≤ at → x ≡ sound (complete h ts) place → RestSaid h ts d before place at (slice at end s) x
-  rest-none l e = record { is = e ∙ sym (rest-nothing (take end s) h ts d before place at (omega (arith, up-to P))) }
+  pub rest-none : {x : Result (Unit {0})} → end ≤ at → x ≡ sound (complete h ts) place → RestSaid strict h ts d before place at (slice at end s) x
+  rest-none l e = record { is = e ∙ sym (rest-nothing strict (take end s) h ts d before place at (omega (arith, up-to P))) }
 
   -- a field
   module _ (l : at < end) {x : Result (Unit {0})} where
     turn : x ≡ (front-answer (leb (at + 3) end) (leb (next-in s end at) end) (allowed h before (tag-in s end at)) at
-        >> (value-result (tag-in s end at) d at (value-at (take end s) at) >>= λ g.
-        rest-result h (ts ++ (tag-in s end at ∷ [])) d (tag-in s end at) place (next-in s end at) (slice (next-in s end at) end s)))
-        → RestSaid h ts d before place at (slice at end s) x
-    turn q = record { is = q ∙ sym (rw (up-to P) at (rest-turn (take end s) h ts d before place at (omega (arith, up-to P)))) }
+        >> (value-result strict (tag-in s end at) d at (value-at (take end s) at) >>= λ g.
+        rest-result strict h (ts ++ (tag-in s end at ∷ [])) d (tag-in s end at) place (next-in s end at) (slice (next-in s end at) end s)))
+        → RestSaid strict h ts d before place at (slice at end s) x
+    turn q = record { is = q ∙ sym (rw (up-to P) at (rest-turn strict (take end s) h ts d before place at (omega (arith, up-to P)))) }
 
     header-refuses : (b a : Bool) → front-answer (leb (at + 3) end) (leb (next-in s end at) end) (allowed h before (tag-in s end at)) at ≡ no-field b a at → x ≡ no-field b a at
-        → RestSaid h ts d before place at (slice at end s) x
+        → RestSaid strict h ts d before place at (slice at end s) x
     header-refuses b a e q = turn (q ∙ sym (rw e (stops-there (no-field b a at) _ (no-field-faulty b a at))))
 
     -- a tag that is not allowed, whether its field is whole or not
-    pub rest-wrong : allowed h before (getD s at 0) ≡ false → x ≡ no-field (leb (at + 3) end) false at → RestSaid h ts d before place at (slice at end s) x
+    pub rest-wrong : allowed h before (getD s at 0) ≡ false → x ≡ no-field (leb (at + 3) end) false at → RestSaid strict h ts d before place at (slice at end s) x
     rest-wrong a q = header-refuses (leb (at + 3) end) false (rw (getD-take end s at 0 l, a) (wrong-answer (leb (at + 3) end) (leb (next-in s end at) end) at)) q
 
     -- no whole field
     pub rest-short : {f : Field} {b : Bool} → f ≡ field-at (take end s) at → NotWhole f → b ≡ allowed h before (getD s at 0) → x ≡ no-field (leb (at + 3) end) b at
-        → RestSaid h ts d before place at (slice at end s) x
+        → RestSaid strict h ts d before place at (slice at end s) x
     rest-short {f} {b} e n a q =
         header-refuses (leb (at + 3) end) b (rw (getD-take end s at 0 l, ← a) (short-answer (leb (at + 3) end) (leb (next-in s end at) end) b at (not-both _ _ refl refl))) q
       where
@@ -104,24 +104,24 @@ module _ {s : List ℕ} {place at end : ℕ} (P : Between s place at end) (h : H
 
   -- a whole field
   module _ {t from to : ℕ} (A : At s end at t from to) {x : Result (Unit {0})} where
-    whole-turn : allowed h before t ≡ true → x ≡ (value-result t d at (slice from to s) >>= λ g. rest-result h (ts ++ (t ∷ [])) d t place to (slice to end s))
-        → RestSaid h ts d before place at (slice at end s) x
+    whole-turn : allowed h before t ≡ true → x ≡ (value-result strict t d at (slice from to s) >>= λ g. rest-result strict h (ts ++ (t ∷ [])) d t place to (slice to end s))
+        → RestSaid strict h ts d before place at (slice at end s) x
     unfolding front-answer need _>>_
     whole-turn a q =
         turn (A .inside)
         (q ∙ sym (rw (A .whole .tag-is, A .whole .to-is, value-there P A, a, le-leb (at + 3) end (omega (arith, A .whole .to-is, in-the-part P A)), le-leb to end (in-the-part P A))))
 
-    pub whole-wrong : allowed h before t ≡ false → x ≡ refused 4 at → RestSaid h ts d before place at (slice at end s) x
+    pub whole-wrong : allowed h before t ≡ false → x ≡ refused 4 at → RestSaid strict h ts d before place at (slice at end s) x
     unfolding no-field
     whole-wrong a q =
         rest-wrong (A .inside) (rw (← (getD-take end s at 0 (A .inside)), A .whole .tag-is) a)
         (q ∙ sym (rw (le-leb (at + 3) end (omega (arith, A .whole .to-is, in-the-part P A)))))
 
     -- its value is at fault, or it is sound and what is left behind it answers
-    pub whole-stops : allowed h before t ≡ true → ValueSaid t d at (slice from to s) x → Faulty x → RestSaid h ts d before place at (slice at end s) x
-    whole-stops a W F = whole-turn a (stops-chain (value-result t d at (slice from to s)) _ (W .is) F ∙ done-unit _)
+    pub whole-stops : allowed h before t ≡ true → ValueSaid strict t d at (slice from to s) x → Faulty x → RestSaid strict h ts d before place at (slice at end s) x
+    whole-stops a W F = whole-turn a (stops-chain (value-result strict t d at (slice from to s)) _ (W .is) F ∙ done-unit _)
 
-    pub whole-on : allowed h before t ≡ true → ValueSaid t d at (slice from to s) (accepted tt) → RestSaid h (ts ++ (t ∷ [])) d t place to (slice to end s) x
-        → RestSaid h ts d before place at (slice at end s) x
+    pub whole-on : allowed h before t ≡ true → ValueSaid strict t d at (slice from to s) (accepted tt) → RestSaid strict h (ts ++ (t ∷ [])) d t place to (slice to end s) x
+        → RestSaid strict h ts d before place at (slice at end s) x
     unfolding _>>=_
-    whole-on a W R = let (g, e) = is-accepted (value-result t d at (slice from to s)) (W .is) in whole-turn a (rw e (R .is))
+    whole-on a W R = let (g, e) = is-accepted (value-result strict t d at (slice from to s)) (W .is) in whole-turn a (rw e (R .is))

@@ -66,6 +66,15 @@ unfolding _>>_
 stops-there (refused n p) y F = refl
 stops-there (accepted tt) y F = not-both F refl
 
+-- two verdicts in turn
+module _ (a b : ℕ) where
+  pub faulty-first : (a ≡ 0 → ⊥) → verdict a ≡ (verdict a >> verdict b)
+  faulty-first n = sym (stops-there (verdict a) (verdict b) (faulty-said n))
+
+  pub sound-first : a ≡ 0 → verdict b ≡ (verdict a >> verdict b)
+  unfolding verdict _>>_
+  sound-first e = rw e
+
 pub is-accepted : {A : Type 0} (m : Result A) → accepted tt ≡ done m → (a : A) × (m ≡ accepted a)
 unfolding done
 is-accepted (refused n p) e = no-path (cc)

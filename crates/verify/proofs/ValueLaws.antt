@@ -1,8 +1,8 @@
 -- The value of a field, by its tag: bytes, or fields.
-use Rattle.rules.proofs.Basics.{_≡_, refl, sym, _∙_, ap, List, [], Bool, true, false, _&&_, none, some, ℕ, suc, _+_, _≤_, _<_, arith, leb, eqb, length, ne-eqb, eq-eqb, eqb-true, eqb-false, le-leb, lt-leb}
+use Rattle.rules.proofs.Basics.{_≡_, refl, sym, _∙_, ap, List, [], map, Bool, true, false, _&&_, none, some, ℕ, suc, _+_, _≤_, _<_, arith, leb, eqb, length, ne-eqb, eq-eqb, eqb-true, eqb-false, le-leb, lt-leb}
 use Rattle.rules.specs.Limits.{most-blocks, first-style}
 use Rattle.rules.specs.Result.{Result, refused, accepted, _>>_, need, sound}
-use Rattle.rules.specs.Walk.{Holder, in-fragment, in-block, in-text, in-anchor, in-styles, of-fields, valued, walk, holds, text-content, anchor-content, content, complete, tags, right-length, is-block, allowed}
+use Rattle.rules.specs.Walk.{Holder, in-fragment, in-block, in-text, in-anchor, in-styles, of-fields, valued, walk, holds, anchor-content, content, is-text, strict-content, content-in, complete, tags, right-length, is-block, allowed}
 use Rattle.rules.specs.Good.{depth-in}
 use Rattle.rules.specs.Answers.{itself}
 use Rattle.rules.proofs.Accepted.{map-itself}
@@ -19,30 +19,46 @@ unfolding need _>>_
 after-need true n p x y e = e
 after-need false n p x y e = unfold done in refl
 
-module _ (d p : ℕ) (v : List ℕ) where
-  bytes-content : (t : ℕ) → holds t ≡ none → done (content-result t d p v) ≡ sound (content t v) p
-  unfolding content-result valued
-  bytes-content t e = rw e (done-then (sound (content t _) p) _ ∙ ap (λ (u : List ℕ). sound (content t u) p) (map-itself v))
+-- the mode matters to texts alone, and to a 7 as to a 17
+other-content : (strict : Bool) (t : ℕ) (v : List ℕ) → is-text t ≡ false → content t v ≡ content-in strict t v
+unfolding strict-content
+other-content false t v n = refl
+other-content true t v n = simp n
 
-  shallow : (t : ℕ) → is-block t ≡ false → value-result t d p v ≡ (need (right-length t (length v)) 5 p >> content-result t d p v)
+note-content : (strict : Bool) (v : List ℕ) → content-in strict 17 v ≡ content-in strict 7 v
+unfolding strict-content is-text content
+note-content false v = refl
+note-content true v = refl
+
+module _ (strict : Bool) (d p : ℕ) (v : List ℕ) where
+  bytes-content : (t : ℕ) → holds t ≡ none → done (content-result strict t d p v) ≡ sound (content-in strict t v) p
+  unfolding content-result valued
+  bytes-content t e =
+      rw e (done-then (sound (content-in strict t (map itself v)) p) _ ∙ ap (λ (u : List ℕ). sound (content-in strict t u) p) (map-itself v))
+
+  shallow : (t : ℕ) → is-block t ≡ false → value-result strict t d p v ≡ (need (right-length t (length v)) 5 p >> content-result strict t d p v)
   unfolding value-result need _>>_
   shallow t b = rw b
 
   module _ {x : Result (Unit {0})} where
-    bytes-at : (t : ℕ) → right-length t (length v) ≡ true → is-block t ≡ false → holds t ≡ none → x ≡ sound (content t v) p → ValueSaid t d p v x
+    bytes-at : (t : ℕ) → right-length t (length v) ≡ true → is-block t ≡ false → holds t ≡ none → x ≡ sound (content-in strict t v) p → ValueSaid strict t d p v x
     unfolding value-result need _>>_
     bytes-at t l b o e = record { is = rw (l, b) (e ∙ sym (bytes-content t o)) }
 
-    fields-at : (t : ℕ) (h : Holder) → right-length t (length v) ≡ true → (is-block t && leb most-blocks d) ≡ false → holds t ≡ some h → {from : ℕ} → p + 3 ≡ from → RestSaid h [] (depth-in t d) 0 p from v x → ValueSaid t d p v x
+    -- no text
+    other-at : (t : ℕ) → right-length t (length v) ≡ true → is-block t ≡ false → holds t ≡ none → is-text t ≡ false → x ≡ sound (content t v) p → ValueSaid strict t d p v x
+    other-at t l b o n e = bytes-at t l b o (e ∙ ap (λ cs. sound cs p) (other-content strict t v n))
+
+    fields-at : (t : ℕ) (h : Holder) → right-length t (length v) ≡ true → (is-block t && leb most-blocks d) ≡ false → holds t ≡ some h → {from : ℕ} → p + 3 ≡ from → RestSaid strict h [] (depth-in t d) 0 p from v x → ValueSaid strict t d p v x
     unfolding value-result need _>>_ content-result valued rest-result
-    fields-at t h l b o g F = record { is = rw (← g) at (F .is) ∙ rw (l, b, o) (sym (done-each (walk content itself (length v) h (depth-in t d) 0 (p + 3) v) (λ i. sound (complete h (tags i)) p) of-fields)) }
+    fields-at t h l b o g F = record { is = rw (← g) at (F .is) ∙ rw (l, b, o) (sym (done-each (walk (content-in strict) itself (length v) h (depth-in t d) 0 (p + 3) v) (λ i. sound (complete h (tags i)) p) of-fields)) }
 
 -- what holds nodes or fragments asks nothing of its tags together, so that its own place does not matter
-fragment-anywhere : {d base p : ℕ} {v : List ℕ} {x : Result (Unit {0})} → RestSaid in-fragment [] d 0 0 base v x → RestSaid in-fragment [] d 0 p base v x
+fragment-anywhere : {strict : Bool} {d base p : ℕ} {v : List ℕ} {x : Result (Unit {0})} → RestSaid strict in-fragment [] d 0 0 base v x → RestSaid strict in-fragment [] d 0 p base v x
 unfolding rest-result complete sound
 fragment-anywhere F = record { is = F .is }
 
-block-anywhere : {d base p : ℕ} {v : List ℕ} {x : Result (Unit {0})} → RestSaid in-block [] (d + 1) 0 0 base v x → RestSaid in-block [] (suc d) 0 p base v x
+block-anywhere : {strict : Bool} {d base p : ℕ} {v : List ℕ} {x : Result (Unit {0})} → RestSaid strict in-block [] (d + 1) 0 0 base v x → RestSaid strict in-block [] (suc d) 0 p base v x
 unfolding rest-result complete sound
 block-anywhere {d} F = let e : d + 1 ≡ suc d = omega arith in record { is = rw e at (F .is) }
 
@@ -56,59 +72,60 @@ no-block-at : (t : ℕ) → is-block t ≡ false → (t ≡ 3 → ⊥) × (t ≡
 unfolding is-block
 no-block-at t b = ((λ (e : t ≡ 3). never (rw e at b)), (λ (e : t ≡ 4). never (rw e at b)))
 
-module _ (d p : ℕ) (v : List ℕ) {t : ℕ} {x : Result (Unit {0})} where
+module _ {strict : Bool} (d p : ℕ) (v : List ℕ) {t : ℕ} {x : Result (Unit {0})} where
   -- a value of fields, which stand from `from` on
   module _ {from : ℕ} (g : p + 3 ≡ from) where
-    pub styles-value : t ≡ 16 → RestSaid in-styles [] d 0 p from v x → ValueSaid t d p v x
+    pub styles-value : t ≡ 16 → RestSaid strict in-styles [] d 0 p from v x → ValueSaid strict t d p v x
     unfolding right-length is-block holds
-    styles-value e F = rw e (fields-at d p v 16 in-styles refl refl refl g F)
+    styles-value e F = rw e (fields-at strict d p v 16 in-styles refl refl refl g F)
 
-    pub run-value : t ≡ 1 → RestSaid in-text [] d 0 p from v x → ValueSaid t d p v x
+    pub run-value : t ≡ 1 → RestSaid strict in-text [] d 0 p from v x → ValueSaid strict t d p v x
     unfolding right-length is-block holds
-    run-value e F = rw e (fields-at d p v 1 in-text refl refl refl g F)
+    run-value e F = rw e (fields-at strict d p v 1 in-text refl refl refl g F)
 
-    pub anchor-value : t ≡ 2 → RestSaid in-anchor [] d 0 p from v x → ValueSaid t d p v x
+    pub anchor-value : t ≡ 2 → RestSaid strict in-anchor [] d 0 p from v x → ValueSaid strict t d p v x
     unfolding right-length is-block holds
-    anchor-value e F = rw e (fields-at d p v 2 in-anchor refl refl refl g F)
+    anchor-value e F = rw e (fields-at strict d p v 2 in-anchor refl refl refl g F)
 
-    pub piece-value : t ≡ 8 → RestSaid in-fragment [] d 0 0 from v x → ValueSaid t d p v x
+    pub piece-value : t ≡ 8 → RestSaid strict in-fragment [] d 0 0 from v x → ValueSaid strict t d p v x
     unfolding right-length is-block holds
-    piece-value e F = rw e (fields-at d p v 8 in-fragment refl refl refl g (fragment-anywhere F))
+    piece-value e F = rw e (fields-at strict d p v 8 in-fragment refl refl refl g (fragment-anywhere F))
 
-    pub block-value : is-block t ≡ true → d < most-blocks → RestSaid in-block [] (d + 1) 0 0 from v x → ValueSaid t d p v x
+    pub block-value : is-block t ≡ true → d < most-blocks → RestSaid strict in-block [] (d + 1) 0 0 from v x → ValueSaid strict t d p v x
     unfolding right-length is-block holds
     block-value b h F =
         let n : leb most-blocks d ≡ false = lt-leb most-blocks d h in
-        is-a-block (λ t. ValueSaid t d p v x) t b (fields-at d p v 3 in-block refl n refl g (block-anywhere F)) (fields-at d p v 4 in-block refl n refl g (block-anywhere F))
+        is-a-block (λ t. ValueSaid strict t d p v x) t b (fields-at strict d p v 3 in-block refl n refl g (block-anywhere F)) (fields-at strict d p v 4 in-block refl n refl g (block-anywhere F))
 
-  pub deep-value : is-block t ≡ true → most-blocks ≤ d → x ≡ refused 6 p → ValueSaid t d p v x
+  pub deep-value : is-block t ≡ true → most-blocks ≤ d → x ≡ refused 6 p → ValueSaid strict t d p v x
   unfolding value-result right-length is-block need _>>_ done
   deep-value b h e =
       let n : leb most-blocks d ≡ true = le-leb most-blocks d h in
-      is-a-block (λ t. ValueSaid t d p v x) t b (record { is = rw n e }) (record { is = rw n e })
+      is-a-block (λ t. ValueSaid strict t d p v x) t b (record { is = rw n e }) (record { is = rw n e })
 
-  pub note-value : t ≡ 7 → x ≡ sound (text-content v) p → ValueSaid t d p v x
-  unfolding right-length is-block holds content text-content
-  note-value q e = rw q (bytes-at d p v 7 refl refl refl e)
+  pub note-value : t ≡ 7 → x ≡ sound (content-in strict 17 v) p → ValueSaid strict t d p v x
+  unfolding right-length is-block holds
+  note-value q e = rw q (bytes-at strict d p v 7 refl refl refl (e ∙ ap (λ cs. sound cs p) (note-content strict v)))
 
-  pub text-value : t ≡ 17 → x ≡ sound (text-content v) p → ValueSaid t d p v x
-  unfolding right-length is-block holds content text-content
-  text-value q e = rw q (bytes-at d p v 17 refl refl refl e)
+  pub text-value : t ≡ 17 → x ≡ sound (content-in strict 17 v) p → ValueSaid strict t d p v x
+  unfolding right-length is-block holds
+  text-value q e = rw q (bytes-at strict d p v 17 refl refl refl e)
 
-  pub name-value : allowed in-anchor 0 t ≡ true → x ≡ sound (anchor-content v) p → ValueSaid t d p v x
-  unfolding right-length is-block holds content anchor-content
+  pub name-value : allowed in-anchor 0 t ≡ true → x ≡ sound (anchor-content v) p → ValueSaid strict t d p v x
+  unfolding right-length is-block holds is-text content anchor-content
   name-value a e =
-      by-test (eqb t 18) (λ q. rw (eqb-true t 18 q) (bytes-at d p v 18 refl refl refl e))
-      (λ q. rw (name-tag {before = 0} (record { yes = a }) refl (eqb-false t 18 q)) (bytes-at d p v 19 refl refl refl e))
+      by-test (eqb t 18) (λ q. rw (eqb-true t 18 q) (other-at strict d p v 18 refl refl refl refl e))
+      (λ q. rw (name-tag {before = 0} (record { yes = a }) refl (eqb-false t 18 q)) (other-at strict d p v 19 refl refl refl refl e))
 
-  pub style-value : (before : ℕ) → allowed in-styles before t ≡ true → x ≡ style-verdict t v p → ValueSaid t d p v x
-  unfolding style-verdict is-block holds
+  pub style-value : (before : ℕ) → allowed in-styles before t ≡ true → x ≡ style-verdict t v p → ValueSaid strict t d p v x
+  unfolding style-verdict is-block holds is-text
   style-value before A e =
       let (lo, hi) = styles-tags {before = before} (record { yes = A }) in
       let other : (k : ℕ) → k < first-style → eqb t k ≡ false = λ k l. ne-eqb t k (λ (z : t ≡ k). omega arith) in
       let b : is-block t ≡ false = simp (other 3 (omega arith), other 4 (omega arith)) in
       let o : holds t ≡ none = simp (other 1 (omega arith), other 2 (omega arith), other 3 (omega arith), other 4 (omega arith), other 8 (omega arith), other 16 (omega arith)) in
-      record { is = e ∙ sym (ap done (shallow d p v t b) ∙ after-need _ 5 p _ _ (bytes-content d p v t o)) }
+      let n : is-text t ≡ false = simp (other 17 (omega arith), other 7 (omega arith)) in
+      record { is = e ∙ sym (ap done (shallow strict d p v t b) ∙ after-need _ 5 p _ _ (bytes-content strict d p v t o ∙ sym (ap (λ cs. sound cs p) (other-content strict t v n)))) }
 
 -- 5 and 6
 module _ {s : List ℕ} {t at to : ℕ} (L : Leaf s t at to) (a : t ≡ 1 → ⊥) (b : t ≡ 2 → ⊥) (c : t ≡ 7 → ⊥) where
@@ -118,14 +135,14 @@ module _ {s : List ℕ} {t at to : ℕ} (L : Leaf s t at to) (a : t ≡ 1 → �
       let (m, n) = no-block-at t (L .no-block) in
       by-test (eqb t 5) (λ q. rw (eqb-true t 5 q) x) (λ q. let e : t ≡ 6 = omega (arith, eqb-false t 5 q) in rw e y)
 
-  pub empty-value : (d p : ℕ) (v : List ℕ) {x : Result (Unit {0})} → length v ≡ 0 → x ≡ accepted tt → ValueSaid t d p v x
-  unfolding right-length is-block holds content sound
-  empty-value d p v {x} l e =
+  pub empty-value : {strict : Bool} (d p : ℕ) (v : List ℕ) {x : Result (Unit {0})} → length v ≡ 0 → x ≡ accepted tt → ValueSaid strict t d p v x
+  unfolding right-length is-block holds is-text content sound
+  empty-value {strict} d p v {x} l e =
       let n : eqb (length v) 0 ≡ true = eq-eqb (length v) 0 l in
-      is-empty (λ t. ValueSaid t d p v x) (bytes-at d p v 5 n refl refl e) (bytes-at d p v 6 n refl refl e)
+      is-empty (λ t. ValueSaid strict t d p v x) (other-at strict d p v 5 n refl refl refl e) (other-at strict d p v 6 n refl refl refl e)
 
-  pub filled-value : (d p : ℕ) (v : List ℕ) {x : Result (Unit {0})} → (length v ≡ 0 → ⊥) → x ≡ refused 5 p → ValueSaid t d p v x
+  pub filled-value : {strict : Bool} (d p : ℕ) (v : List ℕ) {x : Result (Unit {0})} → (length v ≡ 0 → ⊥) → x ≡ refused 5 p → ValueSaid strict t d p v x
   unfolding value-result right-length need _>>_ done
-  filled-value d p v {x} l e =
+  filled-value {strict} d p v {x} l e =
       let n : eqb (length v) 0 ≡ false = ne-eqb (length v) 0 l in
-      is-empty (λ t. ValueSaid t d p v x) (record { is = rw n e }) (record { is = rw n e })
+      is-empty (λ t. ValueSaid strict t d p v x) (record { is = rw n e }) (record { is = rw n e })

@@ -40,4 +40,4 @@ pub record Upto (m before : ℕ) (ts : List ℕ) : Type 0 where
 
 -- what is left of a 16 is right, behind tags up to m
 pub record RightFrom (m : ℕ) (s : List ℕ) (stop at : ℕ) : Type 0 where
-  pub said : (d before place : ℕ) (ts : List ℕ) → Between s place at stop → Upto m before ts → RestSaid in-styles ts d before place at (slice at stop s) (accepted tt)
+  pub said : (d before place : ℕ) (ts : List ℕ) → Between s place at stop → Upto m before ts → RestSaid false in-styles ts d before place at (slice at stop s) (accepted tt)

@@ -1,6 +1,6 @@
 -- What a check says in the rules' words.
 use Prim.Native.Nat.{ℕ, zero, suc, _/_, _%_}
-use Rattle.rules.specs.Result.{Result, refused, accepted}
+use Rattle.rules.specs.Result.{Result, refused, accepted, _>>_}
 use Rattle.verify.specs.declared.style.Styled.{Styled}
 use Rattle.verify.specs.declared.style.Styled.the-variants.{Right, WrongLength, BadStyle}
 
@@ -8,6 +8,10 @@ use Rattle.verify.specs.declared.style.Styled.the-variants.{Right, Wrong
 unfoldable pub verdict : ℕ → Result (Unit {0})
 verdict zero = accepted tt
 verdict (suc n) = refused (suc n % 256) (suc n / 256)
+
+-- a check, and where it finds nothing another one
+abbrev pub both-said : (first second : Result (Unit {0})) → Result (Unit {0})
+both-said x y = x >> y
 
 -- what is said of a style's field at a place
 unfoldable pub styled : Styled → (place : ℕ) → Result (Unit {0})

@@ -8,7 +8,7 @@ use looks::calm;
 use looks::calm_ahead;
 use utf8::all_bits;
 ghost use mathlib.Core.Path.{_≡_};
-ghost use mathlib.Core.Bool.{true};
+ghost use mathlib.Core.Bool.{true, false};
 ghost use mathlib.Core.List.{[]};
 ghost use Prim.Native.Nat.{ℕ, _+_, _<_, _≤_};
 ghost use lib.ListN.{length, getD};
@@ -106,7 +106,7 @@ fn right_sizes(s: &[u8], at: usize, stop: usize) -> bool
 // The fields of a 16. Most are a colour alone.
 fn right_styles(s: &[u8], from: usize, stop: usize) -> bool
     requires { ⌜ (from ≤ stop) × (stop < length (now s)) ⌝ }
-    ensures { λ r. ⌜ Says r ((d place : ℕ) → Between (now (s .entry)) place from stop → RestSaid in-styles [] d 0 place from (slice from stop (now (s .entry))) (accepted tt)) ⌝ }
+    ensures { λ r. ⌜ Says r ((d place : ℕ) → Between (now (s .entry)) place from stop → RestSaid false in-styles [] d 0 place from (slice from stop (now (s .entry))) (accepted tt)) ⌝ }
 {
     let coloured = behind(s, from, stop, 32, 3);
     if coloured == stop {
@@ -144,11 +144,14 @@ fn is_ascii(s: &[u8], from: usize, to: usize) -> bool
     all_bits(&s[from..to]) < 128
 }
 
-// A text that begins with a 16 of at most 255 bytes.
-pub fn is_styled(s: &[u8], from: usize, end: usize) -> bool
+// A text that begins with a 16 of at most 255 bytes. In strict mode nothing is said.
+pub fn is_styled(s: &[u8], from: usize, end: usize, strict: bool) -> bool
     requires { ⌜ (from < end) × (end ≤ length (now s)) × (getD (now s) from 0 ≡ 16) ⌝ }
-    ensures { λ r. ⌜ Says r ((d place : ℕ) → Between (now (s .entry)) place from end → RestSaid in-text [] d 0 place from (slice from end (now (s .entry))) (accepted tt)) ⌝ }
+    ensures { λ r. ⌜ Says r ((d place : ℕ) → Between (now (s .entry)) place from end → RestSaid strict in-text [] d 0 place from (slice from end (now (s .entry))) (accepted tt)) ⌝ }
 {
+    if strict {
+        return false;
+    }
     if end - from < 6 {
         return false;
     }
@@ -168,11 +171,14 @@ pub fn is_styled(s: &[u8], from: usize, end: usize) -> bool
     false
 }
 
-// A 7, or a text of one 17, of few bytes in ASCII. The node of the tag stands from `at` to `to`.
-pub fn is_quick(s: &[u8], at: usize, to: usize, tag: u8) -> bool
+// A 7, or a text of one 17, of few bytes in ASCII. The node of the tag stands from `at` to `to`. In strict mode nothing is said.
+pub fn is_quick(s: &[u8], at: usize, to: usize, tag: u8, strict: bool) -> bool
     requires { ⌜ Between (now s) at (at + 3) to ⌝ }
-    ensures { λ r. ⌜ Says r ((d : ℕ) → ValueSaid tag d at (slice (at + 3) to (now (s .entry))) (accepted tt)) ⌝ }
+    ensures { λ r. ⌜ Says r ((d : ℕ) → ValueSaid strict tag d at (slice (at + 3) to (now (s .entry))) (accepted tt)) ⌝ }
 {
+    if strict {
+        return false;
+    }
     let from = at + 3;
     if tag == 7 {
         return calm(s, from, to, NONE);

@@ -1,4 +1,5 @@
 // What holds no blocks: the fields of a 16, of a text and of an anchor. They stand from `from` to `end`, and the field that holds them at `place`.
+// In strict mode a text has no NUL.
 use crate::content::check_name;
 use crate::content::check_text;
 use crate::front::no_field;
@@ -16,6 +17,7 @@ use crate::verdict::fault;
 use fields::Field;
 use fields::field_in;
 ghost use mathlib.Core.Path.{_≡_};
+ghost use mathlib.Core.Bool.{Bool};
 ghost use mathlib.Core.List.{List, []};
 ghost use Prim.Native.Nat.{ℕ, _<_};
 ghost use lib.ListN.{getD};
@@ -27,7 +29,7 @@ ghost use Rattle.verify.specs.Walked.{RestSaid, Between, TextLeft, Named
 // The fields of a 16.
 fn check_styles(s: &[u8], from: usize, end: usize, place: usize) -> Verdict
     requires { ⌜ Between (now s) place from end ⌝ }
-    ensures { λ r. ⌜ ((d : ℕ) → RestSaid in-styles [] d 0 place from (slice from end (now (s .entry))) (verdict r)) ⌝ }
+    ensures { λ r. ⌜ ((strict : Bool) (d : ℕ) → RestSaid strict in-styles [] d 0 place from (slice from end (now (s .entry))) (verdict r)) ⌝ }
 {
     let mut at = from;
     let mut seen = Seen::nothing();
@@ -50,9 +52,9 @@ fn check_styles(s: &[u8], from: usize, end: usize, place: usize) -> Verdict
 }
 
 // The 17 of a text, which is next or missing, and nothing behind it.
-fn check_last(s: &[u8], at: usize, end: usize, place: usize) -> Verdict
+fn check_last(s: &[u8], at: usize, end: usize, place: usize, strict: bool) -> Verdict
     requires { ⌜ Between (now s) place at end ⌝ }
-    ensures { λ r. ⌜ ((d before : ℕ) (ts : List ℕ) → TextLeft before ts (now (s .entry)) at end → RestSaid in-text ts d before place at (slice at end (now (s .entry))) (verdict r)) ⌝ }
+    ensures { λ r. ⌜ ((d before : ℕ) (ts : List ℕ) → TextLeft before ts (now (s .entry)) at end → RestSaid strict in-text ts d before place at (slice at end (now (s .entry))) (verdict r)) ⌝ }
 {
     if at == end {
         return fault(5, place);
@@ -64,7 +66,7 @@ fn check_last(s: &[u8], at: usize, end: usize, place: usize) -> Verdict
     if tag != 17 {
         return fault(4, at);
     }
-    let said = check_text(s, v, to, at);
+    let said = check_text(s, v, to, at, strict);
     if said != SOUND {
         return said;
     }
@@ -75,9 +77,9 @@ fn check_last(s: &[u8], at: usize, end: usize, place: usize) -> Verdict
 }
 
 // A text that begins with a 16.
-fn check_styled(s: &[u8], from: usize, end: usize, place: usize) -> Verdict
+fn check_styled(s: &[u8], from: usize, end: usize, place: usize, strict: bool) -> Verdict
     requires { ⌜ Between (now s) place from end × ((from < end) × (getD (now s) from 0 ≡ 16)) ⌝ }
-    ensures { λ r. ⌜ ((d : ℕ) → RestSaid in-text [] d 0 place from (slice from end (now (s .entry))) (verdict r)) ⌝ }
+    ensures { λ r. ⌜ ((d : ℕ) → RestSaid strict in-text [] d 0 place from (slice from end (now (s .entry))) (verdict r)) ⌝ }
 {
     let f = field_in(s, from, end);
     let Field::Whole { tag, from: v, to } = f else {
@@ -87,29 +89,29 @@ fn check_styled(s: &[u8], from: usize, end: usize, place: usize) -> Verdict
     if said != SOUND {
         return said;
     }
-    check_last(s, to, end, place)
+    check_last(s, to, end, place, strict)
 }
 
 // The fields of a text: an optional 16, then one 17.
-pub fn check_text_fields(s: &[u8], from: usize, end: usize, place: usize) -> Verdict
+pub fn check_text_fields(s: &[u8], from: usize, end: usize, place: usize, strict: bool) -> Verdict
     requires { ⌜ Between (now s) place from end ⌝ }
-    ensures { λ r. ⌜ ((d : ℕ) → RestSaid in-text [] d 0 place from (slice from end (now (s .entry))) (verdict r)) ⌝ }
+    ensures { λ r. ⌜ ((d : ℕ) → RestSaid strict in-text [] d 0 place from (slice from end (now (s .entry))) (verdict r)) ⌝ }
 {
     if from < end {
         if s[from] == 16 {
-            if is_styled(s, from, end) {
+            if is_styled(s, from, end, strict) {
                 return SOUND;
             }
-            return check_styled(s, from, end, place);
+            return check_styled(s, from, end, place, strict);
         }
     }
-    check_last(s, from, end, place)
+    check_last(s, from, end, place, strict)
 }
 
 // The texts of an anchor, behind its name.
-fn check_runs(s: &[u8], from: usize, end: usize, place: usize) -> Verdict
+fn check_runs(s: &[u8], from: usize, end: usize, place: usize, strict: bool) -> Verdict
     requires { ⌜ Between (now s) place from end ⌝ }
-    ensures { λ r. ⌜ ((d before : ℕ) (ts : List ℕ) → Named before ts → RestSaid in-anchor ts d before place from (slice from end (now (s .entry))) (verdict r)) ⌝ }
+    ensures { λ r. ⌜ ((d before : ℕ) (ts : List ℕ) → Named before ts → RestSaid strict in-anchor ts d before place from (slice from end (now (s .entry))) (verdict r)) ⌝ }
 {
     let mut at = from;
     while at < end {
@@ -120,7 +122,7 @@ fn check_runs(s: &[u8], from: usize, end: usize, place: usize) -> Verdict
         if tag != 1 {
             return fault(4, at);
         }
-        let said = check_text_fields(s, v, to, at);
+        let said = check_text_fields(s, v, to, at, strict);
         if said != SOUND {
             return said;
         }
@@ -130,9 +132,9 @@ fn check_runs(s: &[u8], from: usize, end: usize, place: usize) -> Verdict
 }
 
 // The fields of an anchor: its name, then texts.
-pub fn check_anchor_fields(s: &[u8], from: usize, end: usize, place: usize) -> Verdict
+pub fn check_anchor_fields(s: &[u8], from: usize, end: usize, place: usize, strict: bool) -> Verdict
     requires { ⌜ Between (now s) place from end ⌝ }
-    ensures { λ r. ⌜ ((d : ℕ) → RestSaid in-anchor [] d 0 place from (slice from end (now (s .entry))) (verdict r)) ⌝ }
+    ensures { λ r. ⌜ ((d : ℕ) → RestSaid strict in-anchor [] d 0 place from (slice from end (now (s .entry))) (verdict r)) ⌝ }
 {
     if from == end {
         return fault(5, place);
@@ -148,5 +150,5 @@ pub fn check_anchor_fields(s: &[u8], from: usize, end: usize, place: usize) -> V
     if said != SOUND {
         return said;
     }
-    check_runs(s, to, end, place)
+    check_runs(s, to, end, place, strict)
 }

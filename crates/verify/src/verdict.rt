@@ -3,7 +3,7 @@
 ghost use mathlib.Core.Path.{_≡_};
 ghost use Prim.Native.Nat.{_<_, _^_};
 ghost use Rattle.rules.specs.Result.{refused};
-ghost use Rattle.verify.specs.Said.{verdict};
+ghost use Rattle.verify.specs.Said.{verdict, both-said};
 
 pub type Verdict = usize;
 
@@ -14,4 +14,14 @@ pub fn fault(number: usize, place: usize) -> Verdict
     ensures { λ r. ⌜ verdict r ≡ refused number place ⌝ }
 {
     place * 256 + number
+}
+
+// Two checks, one after the other: the second answers where the first finds nothing.
+pub fn in_turn(first: Verdict, second: Verdict) -> Verdict
+    ensures { λ r. ⌜ verdict r ≡ both-said (verdict first) (verdict second) ⌝ }
+{
+    if first != SOUND {
+        return first;
+    }
+    second
 }

@@ -20,26 +20,26 @@ ghost use mathlib.Core.List.{[]};
 ghost use Prim.Native.Nat.{ℕ, _+_};
 ghost use lib.Seq.{slice};
 ghost use Rattle.rules.specs.Walk.{in-fragment, in-block};
-ghost use Rattle.rules.specs.Answers.{check-answer};
+ghost use Rattle.rules.specs.Answers.{check-answer, strict-check-answer};
 ghost use Rattle.rules.specs.Result.{said, refusal, refused};
-ghost use Rattle.rules.proofs.Refused.{Fault};
+ghost use Rattle.rules.proofs.Refused.{Fault, StrictFault};
 ghost use Rattle.verify.specs.Said.{verdict};
-ghost use Rattle.verify.specs.Walked.{RestSaid, ValueSaid, Between, Node, Leaf};
+ghost use Rattle.verify.specs.Walked.{RestSaid, ValueSaid, Between, Node, Leaf, answer-in};
 
 // The value of a node that is no block: the node stands from `at` to `to`.
-fn check_leaf(s: &[u8], at: usize, to: usize, tag: u8) -> Verdict
+fn check_leaf(s: &[u8], at: usize, to: usize, tag: u8, strict: bool) -> Verdict
     requires { ⌜ Leaf (now s) tag at to ⌝ }
-    ensures { λ r. ⌜ ((d : ℕ) → ValueSaid tag d at (slice (at + 3) to (now (s .entry))) (verdict r)) ⌝ }
+    ensures { λ r. ⌜ ((d : ℕ) → ValueSaid strict tag d at (slice (at + 3) to (now (s .entry))) (verdict r)) ⌝ }
 {
     let from = at + 3;
     if tag == 1 {
-        return check_text_fields(s, from, to, at);
+        return check_text_fields(s, from, to, at, strict);
     }
     if tag == 2 {
-        return check_anchor_fields(s, from, to, at);
+        return check_anchor_fields(s, from, to, at, strict);
     }
     if tag == 7 {
-        return check_text(s, from, to, at);
+        return check_text(s, from, to, at, strict);
     }
     if from != to {
         return fault(5, at);
@@ -48,26 +48,26 @@ fn check_leaf(s: &[u8], at: usize, to: usize, tag: u8) -> Verdict
 }
 
 // The value of a node, which stands from `at` to `to`, inside `depth` blocks.
-fn check_node(s: &[u8], at: usize, to: usize, tag: u8, depth: usize) -> Verdict
+fn check_node(s: &[u8], at: usize, to: usize, tag: u8, depth: usize, strict: bool) -> Verdict
     requires { ⌜ Node (now s) tag at to ⌝ }
-    ensures { λ r. ⌜ ValueSaid tag depth at (slice (at + 3) to (now (s .entry))) (verdict r) ⌝ }
+    ensures { λ r. ⌜ ValueSaid strict tag depth at (slice (at + 3) to (now (s .entry))) (verdict r) ⌝ }
 {
-    if is_quick(s, at, to, tag) {
+    if is_quick(s, at, to, tag, strict) {
         return SOUND;
     }
     if !is_block(tag) {
-        return check_leaf(s, at, to, tag);
+        return check_leaf(s, at, to, tag, strict);
     }
     if MOST_BLOCKS <= depth {
         return fault(6, at);
     }
-    check_block(s, at + 3, to, depth + 1)
+    check_block(s, at + 3, to, depth + 1, strict)
 }
 
 // The nodes of a fragment, inside `depth` blocks.
-fn check_fragment(s: &[u8], from: usize, end: usize, depth: usize) -> Verdict
+fn check_fragment(s: &[u8], from: usize, end: usize, depth: usize, strict: bool) -> Verdict
     requires { ⌜ Between (now s) 0 from end ⌝ }
-    ensures { λ r. ⌜ RestSaid in-fragment [] depth 0 0 from (slice from end (now (s .entry))) (verdict r) ⌝ }
+    ensures { λ r. ⌜ RestSaid strict in-fragment [] depth 0 0 from (slice from end (now (s .entry))) (verdict r) ⌝ }
 {
     let mut at = from;
     while at < end {
@@ -78,7 +78,7 @@ fn check_fragment(s: &[u8], from: usize, end: usize, depth: usize) -> Verdict
         if !in_fragment(tag) {
             return fault(4, at);
         }
-        let said = check_node(s, at, to, tag, depth);
+        let said = check_node(s, at, to, tag, depth, strict);
         if said != SOUND {
             return said;
         }
@@ -88,9 +88,9 @@ fn check_fragment(s: &[u8], from: usize, end: usize, depth: usize) -> Verdict
 }
 
 // The fragments of a block, inside `depth` blocks with it.
-fn check_block(s: &[u8], from: usize, end: usize, depth: usize) -> Verdict
+fn check_block(s: &[u8], from: usize, end: usize, depth: usize, strict: bool) -> Verdict
     requires { ⌜ Between (now s) 0 from end ⌝ }
-    ensures { λ r. ⌜ RestSaid in-block [] depth 0 0 from (slice from end (now (s .entry))) (verdict r) ⌝ }
+    ensures { λ r. ⌜ RestSaid strict in-block [] depth 0 0 from (slice from end (now (s .entry))) (verdict r) ⌝ }
 {
     let mut at = from;
     while at < end {
@@ -102,7 +102,7 @@ fn check_block(s: &[u8], from: usize, end: usize, depth: usize) -> Verdict
             return fault(4, at);
         }
         if v < to {
-            let said = check_fragment(s, v, to, depth);
+            let said = check_fragment(s, v, to, depth, strict);
             if said != SOUND {
                 return said;
             }
@@ -112,7 +112,7 @@ fn check_block(s: &[u8], from: usize, end: usize, depth: usize) -> Verdict
     SOUND
 }
 
-// The walk's refusal of a number at a place.
+// Document 01's refusal of a number at a place.
 fn refused_by(number: usize, place: usize) -> Refusal
     requires { ⌜ Fault number ⌝ }
     ensures { λ r. ⌜ refusal {A = ℕ} r ≡ refused number place ⌝ }
@@ -128,16 +128,41 @@ fn refused_by(number: usize, place: usize) -> Refusal
     }
 }
 
-// The file check: at most so many bytes, then the walk.
-pub fn check(file: &[u8]) -> Answer
-    ensures { λ r. ⌜ said r ≡ check-answer (now (file .entry)) ⌝ }
+// The walk's, in either mode.
+fn refused_in(number: usize, place: usize) -> Refusal
+    requires { ⌜ StrictFault number ⌝ }
+    ensures { λ r. ⌜ refusal {A = ℕ} r ≡ refused number place ⌝ }
+{
+    if number == 14 {
+        return Refusal::NulInText(place);
+    }
+    refused_by(number, place)
+}
+
+// The file check in either mode: at most so many bytes, then the walk.
+fn check_in(file: &[u8], strict: bool) -> Answer
+    ensures { λ r. ⌜ said r ≡ answer-in strict (now (file .entry)) ⌝ }
 {
     if MOST_BYTES < file.len() {
         return Answer::Refused(Refusal::TooLong);
     }
-    let said = check_fragment(file, 0, file.len(), 0);
+    let said = check_fragment(file, 0, file.len(), 0, strict);
     if said == SOUND {
         return Answer::Done(0);
     }
-    Answer::Refused(refused_by(said % 256, said / 256))
+    Answer::Refused(refused_in(said % 256, said / 256))
+}
+
+// The file check.
+pub fn check(file: &[u8]) -> Answer
+    ensures { λ r. ⌜ said r ≡ check-answer (now (file .entry)) ⌝ }
+{
+    check_in(file, false)
+}
+
+// The file check in strict mode, in which a text has no NUL.
+pub fn check_strict(file: &[u8]) -> Answer
+    ensures { λ r. ⌜ said r ≡ strict-check-answer (now (file .entry)) ⌝ }
+{
+    check_in(file, true)
 }

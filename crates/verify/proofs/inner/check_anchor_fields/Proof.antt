@@ -20,4 +20,4 @@ check-anchor-fields-spec = tie.close (tie.spec (λ c κs. search needs)
     whole-stops (b .pre) in-anchor [] d 0 A a (name-value d _ _ a (c .before .check-name .ensures)) (faulty-said (c .if3 .taken)))
     (λ c κs. let w : tie.After-f = search in let g : tie.After-field-in = search in let b : tie.Start = search in let A = field-there (b .pre) (g .field-in .ensures) (w .f .given .1) in rest-part (b .pre) A)
     (λ c d. let w : tie.After-f = search in let g : tie.After-field-in = search in let b : tie.Start = search in let A = field-there (b .pre) (g .field-in .ensures) (w .f .given .1) in let a = sym (c .before .before .before .before .is-name2 .ensures) ∙ not-false _ (c .before .before .before .if2 .left) in
-    whole-on (b .pre) in-anchor [] d 0 A a (rw (sound-said (c .before .if3 .left)) at (name-value d _ _ a (c .before .before .check-name .ensures))) (c .check-runs .ensures d _ _ (is-named a))))
+    whole-on (b .pre) in-anchor [] d 0 A a (rw (sound-said (c .before .if3 .left)) at (name-value {strict = b .args .strict} d _ _ a (c .before .before .check-name .ensures))) (c .check-runs .ensures d _ _ (is-named a))))

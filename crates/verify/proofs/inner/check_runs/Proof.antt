@@ -13,12 +13,12 @@ use Rattle.verify.proofs.inner.check_runs.Statement.{statement}
 use Rattle.verify.proofs.inner.check_runs.Tie as tie
 
 abbrev Inv-loop : tie.InvT-loop
-Inv-loop s from end place at₀ at =
+Inv-loop s from end place strict at₀ at =
     Between s place at end
-    × ((d before : ℕ) (ts : List ℕ) → Named before ts → Come Named in-anchor d s place end at (RestSaid in-anchor ts d before place from (slice from end s)))
+    × ((d before : ℕ) (ts : List ℕ) → Named before ts → Come strict Named in-anchor d s place end at (RestSaid strict in-anchor ts d before place from (slice from end s)))
 
 abbrev μ-loop : tie.MeasureT-loop
-μ-loop s from end place at₀ at = end - at
+μ-loop s from end place strict at₀ at = end - at
 
 pub check-runs-spec : {M : Type 1} → statement M
 check-runs-spec = tie.close (tie.spec Inv-loop μ-loop

@@ -44,7 +44,7 @@ pub +check-block+check-fragment+check-node-spec : {M : Type 1} → statement M
     close μ-block μ-fragment μ-node
     (λ t. check-block-lts.spec (field-in.Asked, field-in.Learnt, no-field-reads.Asked, no-field-reads.Learnt, fault-reads.Asked, fault-reads.Learnt, below 1 check-fragment-kinds.ps μ-fragment check-fragment.Pre t, check-fragment.Post)
     (at 1 check-block-kinds.ps μ-block check-block.Pre t) check-block.Post
-    (λ s from end depth at₀ at. (from ≤ at) × Come Any in-block depth s 0 end at (RestSaid in-block [] depth 0 0 from (slice from end s))) (λ s from end depth at₀ at. end - at)
+    (λ s from end depth strict at₀ at. (from ≤ at) × Come strict Any in-block depth s 0 end at (RestSaid strict in-block [] depth 0 0 from (slice from end s))) (λ s from end depth strict at₀ at. end - at)
     (λ c. (omega arith, come-first in-block _ 0 [] (c .before .pre .1) tt))
     (λ c κs. let P = c .before .loop .inv .1 .part in (P .rising, P .ends)) (λ c. search needs)
     (λ c. omega (arith, c .before .before .before .before .loop .inv .1 .part .ends))
@@ -66,7 +66,7 @@ pub +check-block+check-fragment+check-node-spec : {M : Type 1} → statement M
     (λ t. check-fragment-lts.spec
     (field-in.Asked, field-in.Learnt, in-fragment-reads.Asked, in-fragment-reads.Learnt, no-field-reads.Asked, no-field-reads.Learnt, fault-reads.Asked, fault-reads.Learnt, below 1 check-node-kinds.ps μ-node check-node.Pre t, check-node.Post)
     (at 1 check-fragment-kinds.ps μ-fragment check-fragment.Pre t) check-fragment.Post
-    (λ s from end depth at₀ at. (from ≤ at) × Come Any in-fragment depth s 0 end at (RestSaid in-fragment [] depth 0 0 from (slice from end s))) (λ s from end depth at₀ at. end - at)
+    (λ s from end depth strict at₀ at. (from ≤ at) × Come strict Any in-fragment depth s 0 end at (RestSaid strict in-fragment [] depth 0 0 from (slice from end s))) (λ s from end depth strict at₀ at. end - at)
     (λ c. (omega arith, come-first in-fragment _ 0 [] (c .before .pre .1) tt))
     (λ c κs. let P = c .before .loop .inv .1 .part in (P .rising, P .ends)) (λ c. search needs)
     (λ c. omega (arith, c .before .before .before .before .loop .inv .1 .part .ends)) (λ c κs. search needs)

@@ -1,13 +1,7 @@
--- `verify::walk::check` meets its contract: a file over 60,000 bytes is refused by 1; else the walk over it answers.
-use Rattle.rules.proofs.Basics.{_∙_, arith}
-use Rattle.rules.specs.Result.{said, refusal}
-use Rattle.verify.proofs.CheckLaws.{long-file, sound-file, faulty-file, faulty-number}
+-- `verify::walk::check` meets its contract: document 01's mode.
+use Rattle.rules.proofs.Basics.{needs}
 use Rattle.verify.proofs.walk.check.Statement.{statement}
 use Rattle.verify.proofs.walk.check.Tie as tie
 
 pub check-spec : {M : Type 1} → statement M
-check-spec = tie.close (tie.spec (λ c. unfold said refusal in long-file _ (c .if1 .taken))
-    (λ c κs. record { behind = omega arith; rising = omega arith; ends = omega arith; small = omega arith })
-    (λ c. unfold said in sound-file _ (c .before .before .if1 .left) _ (c .before .check-fragment .ensures) (c .if2 .taken))
-    (λ c κs. faulty-number (c .before .before .before .before .args .file .now) (c .before .before .if1 .left) _ (c .before .check-fragment .ensures) (c .if2 .left))
-    (λ c. unfold said in c .refused-by .ensures ∙ faulty-file _ (c .before .before .before .if1 .left) _ (c .before .before .check-fragment .ensures) (c .before .if2 .left)))
+check-spec = tie.close (tie.spec (λ c κs. search needs) (λ c. c .check-in .ensures))
