@@ -34,7 +34,28 @@ not-accepted (QuoteInAnchor p) n e = differ (sym e)
 not-accepted (PageTooShort p) n e = differ (sym e)
 not-accepted (NulInText p) n e = differ (sym e)
 
--- the file was refused, with the answer's number and place
+-- by how the file is read: it was refused, with the answer's number and place, or accepted
+module _ (reading : List ℕ → Result (Frag ℕ)) (s : List ℕ) (a : Answer) (e : said a ≡ check-answer-by reading s) where
+  pub refused-by : {r : Refusal} → a ≡ Refused r → (n : ℕ) × (p : ℕ) × (reading s ≡ refused n p) × (said a ≡ refused n p)
+  unfolding check-answer-by said _>>=_
+  refused-by {r} q = go (reading s) refl
+    where
+      go : (x : Result (Frag ℕ)) → reading s ≡ x → (n : ℕ) × (p : ℕ) × (reading s ≡ refused n p) × (said a ≡ refused n p)
+      go (accepted t) f = absurd (not-accepted r 0 (sym (ap said q) ∙ e ∙ ap (λ x. x >>= (λ t. accepted 0)) f))
+      go (refused n p) f = (n, p, f, e ∙ ap (λ x. x >>= (λ t. accepted 0)) f)
+
+  pub accepted-by : {n : ℕ} → a ≡ Done n → (t : Frag ℕ) × (reading s ≡ accepted t)
+  unfolding check-answer-by said _>>=_
+  accepted-by {n} q = go (reading s) refl
+    where
+      go : (x : Result (Frag ℕ)) → reading s ≡ x → (t : Frag ℕ) × (reading s ≡ accepted t)
+      go (accepted t) f = (t, f)
+      go (refused m k) f =
+          let z : _≡_ {A = Result ℕ} (accepted n) (refused m k) = sym (ap said q) ∙ e ∙ ap (λ x. x >>= (λ t. accepted 0)) f in
+          absurd (differ z)
+
+-- ---- by document 01's content
+
 pub record RefusedSo (s : List ℕ) (x : Result ℕ) : Type 0 where
   pub number : ℕ
   pub place : ℕ
@@ -42,25 +63,13 @@ pub record RefusedSo (s : List ℕ) (x : Result ℕ) : Type 0 where
   pub says : x ≡ refused number place
 
 pub refused-so : (s : List ℕ) (a : Answer) {r : Refusal} → a ≡ Refused r → said a ≡ check-answer s → RefusedSo s (said a)
-unfolding check-answer-by said _>>=_
-refused-so s a {r} q e = go (tree s) refl
-  where
-    go : (x : Result (Frag ℕ)) → tree s ≡ x → RefusedSo s (said a)
-    go (accepted t) f = absurd (not-accepted r 0 (sym (ap said q) ∙ e ∙ ap (λ x. x >>= (λ t. accepted 0)) f))
-    go (refused n p) f = record { number = n; place = p; no-tree = f; says = e ∙ ap (λ x. x >>= (λ t. accepted 0)) f }
+refused-so s a q e = let (n, p, f, g) = refused-by tree s a e q in record { number = n; place = p; no-tree = f; says = g }
 
--- it is accepted, and is the bytes of a good tree
+-- it is the bytes of a good tree
 pub record AcceptedAs (s : List ℕ) : Type 0 where
   pub root : Frag ℕ
   pub its-tree : tree s ≡ accepted root
   pub read : Read s root
 
 pub accepted-as : (s : List ℕ) (a : Answer) {n : ℕ} → Bytes s → a ≡ Done n → said a ≡ check-answer s → AcceptedAs s
-unfolding check-answer-by said _>>=_
-accepted-as s a {n} b q e = go (tree s) refl
-  where
-    go : (x : Result (Frag ℕ)) → tree s ≡ x → AcceptedAs s
-    go (accepted t) f = record { root = t; its-tree = f; read = tree-read s t b f }
-    go (refused m k) f =
-        let z : _≡_ {A = Result ℕ} (accepted n) (refused m k) = sym (ap said q) ∙ e ∙ ap (λ x. x >>= (λ t. accepted 0)) f in
-        absurd (differ z)
+accepted-as s a b q e = let (t, f) = accepted-by tree s a e q in record { root = t; its-tree = f; read = tree-read s t b f }
