@@ -123,7 +123,7 @@ static void replace_inside(const struct spot *spot, size_t around, size_t at, si
 }
 
 static uint8_t likely_byte(void) {
-    static const uint8_t likely[] = {0, 1, 2, 3, 4, 5, 6, 7, 8, 16, 17, 18, 19, 32, 33, 34, 35, 36, 37, 38, 39, 40, '\n', '"', '&', '<', 'a', 0x80, 0xc3, 0xe2, 0xf0, 0xff};
+    static const uint8_t likely[] = {0, 1, 2, 3, 4, 5, 6, 7, 8, 16, 17, 18, 19, 32, 33, 34, 35, 36, 37, 38, 39, 40, '\n', '\r', '"', '&', '<', 'a', 0x80, 0xc3, 0xe2, 0xf0, 0xff};
     return one_in(3) ? (uint8_t)bits() : likely[below(sizeof likely)];
 }
 

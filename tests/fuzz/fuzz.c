@@ -1,4 +1,4 @@
-/* Fuzzes libhazomeny.a: `fuzz SEED SECONDS FINDING SEEDS..` changes seed files at random and calls all five entries with each. Each file and
+/* Fuzzes libhazomeny.a: `fuzz SEED SECONDS FINDING SEEDS..` changes seed files at random and calls the entries with each, those of strict mode too. Each file and
  * page is lent twice: flush before a page of memory that may not be touched, and flush behind one; a file that an entry only reads may not
  * be written either. So whatever is read or written beside what was lent stops the run, as do answers that are not as include/hazomeny.h
  * says. SEEDS are fragment files, and request batches of tests/recorded; the file of a finding is written to FINDING. */
@@ -6,9 +6,16 @@
 #include "files.h"
 #include "hazomeny.h"
 
+/* Declared here too, so that the compiler tells of a header that has them otherwise. */
+uint64_t hazomeny_check_strict(const uint8_t *file, size_t length);
+uint64_t hazomeny_html_body_strict(const uint8_t *file, size_t length, uint8_t *page, size_t room);
+uint64_t hazomeny_html_document_strict(const uint8_t *file, size_t length, uint8_t *page, size_t room);
+
 enum {
     MOST_PAGE = 1 << 20, /* a longer page is asked for only in rooms that are too short */
     WIDEST = 6553,
+    NUL_IN_TEXT = 14, /* the refusal that strict mode alone has */
+    REFUSALS = 15,
     PATTERN = 0xa5 /* what a page is lent filled with */
 };
 
@@ -53,7 +60,10 @@ static void lend_files(void) {
 
 /* ---- calls, and what has to hold of them ---- */
 
-static uint64_t calls, accepted, refusals[11];
+static uint64_t calls, accepted, refusals[REFUSALS];
+
+/* Whether it is strict mode's entries that are called. */
+static int strict;
 
 static void demand(int holds, const char *why) {
     if (!holds) finding(why);
@@ -63,10 +73,10 @@ static void demand(int holds, const char *why) {
 static void note(uint64_t answer, unsigned beside) {
     unsigned number = hazomeny_refusal(answer);
     calls++;
-    demand(number == beside || (number != 2 && number < 10), "a refusal that the entry does not have");
+    demand(number == beside || (strict && number == NUL_IN_TEXT) || (number != 2 && number < 10), "a refusal that the entry does not have");
     refusals[number]++;
     if (number == 1 || number == 2) demand(hazomeny_number(answer) == 0, "a refusal of the whole that is not at 0");
-    if (number >= 3 && number <= 9) demand(hazomeny_number(answer) < length, "a refusal behind the file");
+    if (number >= 3 && number != 10) demand(hazomeny_number(answer) < length, "a refusal behind the file");
 }
 
 static void begin(const char *entry, int way, size_t width, size_t room) {
@@ -76,11 +86,11 @@ static void begin(const char *entry, int way, size_t width, size_t room) {
     now.room = room;
 }
 
-static uint64_t check(void) {
+static uint64_t check(const char *name, uint64_t (*entry)(const uint8_t *file, size_t length)) {
     uint64_t said[2];
     for (int way = 0; way < 2; way++) {
-        begin("check", way, 0, 0);
-        said[way] = hazomeny_check(lent_file(way), length);
+        begin(name, way, 0, 0);
+        said[way] = entry(lent_file(way), length);
         note(said[way], 0);
     }
     demand(said[0] == said[1], "two answers to one file");
@@ -171,6 +181,71 @@ static void pages(const char *name, page_entry entry, size_t most, uint64_t chec
     }
 }
 
+/* ---- strict mode ---- */
+
+/* The place of the first 17 or 7 from `at` to `end` of an accepted file that has a NUL, or the file's length. */
+static size_t first_nul(size_t at, size_t end) {
+    for (; at < end; at += HEADER + read_length(at)) {
+        size_t inside = at + HEADER, after = inside + read_length(at), found = length;
+        if ((file[at] == 17 || file[at] == 7) && memchr(file + inside, 0, after - inside)) return at;
+        if (holds_fields(file[at])) found = first_nul(inside, after);
+        if (found < length) return found;
+    }
+    return length;
+}
+
+/* The strict check refuses what the check refuses, there or at a text before it; an accepted file at its first text with a NUL. */
+static void checked_soundly(uint64_t checked, uint64_t said) {
+    if (checked) {
+        size_t at = (size_t)hazomeny_number(said);
+        int text = hazomeny_refusal(said) == NUL_IN_TEXT && (file[at] == 17 || file[at] == 7);
+        demand(said == checked || text, "a strict check that refuses otherwise than the check, and no text");
+        return;
+    }
+    size_t nul = first_nul(0, length);
+    demand(said == (nul < length ? coded(NUL_IN_TEXT, nul) : 0), "a strict check that is not as the file's NULs are");
+}
+
+/* Whether a strict page is a page with each CR outside its tags written out. A `<` or `>` in quotes is one of a name. */
+static int written_out(const uint8_t *page, size_t count, const uint8_t *strict_page, size_t strict_count) {
+    static const char reference[] = "&#13;";
+    size_t size = sizeof reference - 1, at = 0;
+    int in_tag = 0, in_quotes = 0;
+    for (size_t i = 0; i < count; i++) {
+        int out = page[i] == '\r' && !in_tag;
+        size_t some = out ? size : 1;
+        if (strict_count - at < some || memcmp(strict_page + at, out ? (const void *)reference : page + i, some) != 0) return 0;
+        at += some;
+        if (in_tag && page[i] == '"') in_quotes = !in_quotes;
+        if (page[i] == '<') in_tag = 1;
+        if (page[i] == '>' && !in_quotes) in_tag = 0;
+    }
+    return at == strict_count;
+}
+
+/* A page and the strict one of a file that both modes accept. */
+static void both_modes(const char *name, page_entry loose, page_entry strictly) {
+    static uint8_t page[MOST_PAGE], strict_page[MOST_PAGE];
+    begin(name, 0, 0, MOST_PAGE);
+    uint64_t said = loose(file, length, page, MOST_PAGE), strict_said = strictly(file, length, strict_page, MOST_PAGE);
+    if (hazomeny_refusal(said) || hazomeny_refusal(strict_said)) return; /* it is longer than that */
+    size_t count = (size_t)hazomeny_number(said), strict_count = (size_t)hazomeny_number(strict_said);
+    demand(written_out(page, count, strict_page, strict_count), "a strict page that is not the page with its CRs written out");
+}
+
+/* All strict entries with the file as it is lent, which the check has spoken of. */
+static void try_strict(uint64_t checked, size_t most) {
+    strict = 1;
+    uint64_t said = check("check_strict", hazomeny_check_strict);
+    checked_soundly(checked, said);
+    pages("html_body_strict", hazomeny_html_body_strict, most, said);
+    pages("html_document_strict", hazomeny_html_document_strict, most, said);
+    strict = 0;
+    if (said) return;
+    both_modes("html_body in both modes", hazomeny_html_body, hazomeny_html_body_strict);
+    both_modes("html_document in both modes", hazomeny_html_document, hazomeny_html_document_strict);
+}
+
 static size_t any_width(void) {
     switch (below(8)) {
     case 0: return WIDEST + below(3);
@@ -184,7 +259,7 @@ static size_t any_width(void) {
 static void try_file(void) {
     alarm(PATIENCE);
     lend_files();
-    uint64_t checked = check();
+    uint64_t checked = check("check", hazomeny_check);
     if (checked == 0) accepted++;
     size_t width = any_width();
     if (one_in(2)) layout(checked, width);
@@ -192,6 +267,7 @@ static void try_file(void) {
     pages("plain", hazomeny_plain, HAZOMENY_PLAIN_PER_BYTE * length, checked);
     pages("html_body", hazomeny_html_body, html, checked);
     pages("html_document", hazomeny_html_document, html, checked);
+    try_strict(checked, html);
     layout(checked, width);
     if (checked == 0) keep_some();
 }
@@ -199,7 +275,8 @@ static void try_file(void) {
 static void tell(void) {
     printf("fuzz: %llu files, %llu of them accepted, %llu calls\nfuzz: answers: accepted %llu", (unsigned long long)files, (unsigned long long)accepted,
            (unsigned long long)calls, (unsigned long long)refusals[0]);
-    for (int number = 1; number <= 10; number++) printf(", %d: %llu", number, (unsigned long long)refusals[number]);
+    for (int number = 1; number < REFUSALS; number++)
+        if (refusals[number]) printf(", %d: %llu", number, (unsigned long long)refusals[number]);
     printf("\n");
 }
 

@@ -10,6 +10,8 @@
 /* Declared here too, so that the compiler tells of a header that has them otherwise. */
 uint64_t hazomeny_mask(const uint8_t *file, size_t length, uint8_t *page, size_t room);
 uint64_t hazomeny_pair(const uint8_t *original, size_t length, const uint8_t *mask, size_t mask_length, uint32_t place);
+uint64_t hazomeny_check_strict(const uint8_t *file, size_t length);
+uint64_t hazomeny_html_body_strict(const uint8_t *file, size_t length, uint8_t *page, size_t room);
 
 enum {
     MOST_PAGE = MOST_FILE + 100,
@@ -161,6 +163,23 @@ static void try_masks(uint64_t checked) {
     for (int i = 0; i < 5; i++) try_mask(checked, rooms[i]);
 }
 
+/* Whether a text of the file has a byte that strict HTML refuses or writes otherwise. */
+static int escaped(void) {
+    for (size_t i = 0; i < texted; i++)
+        for (size_t at = texts[i].place + HEADER, left = texts[i].length; left > 0; at++, left--)
+            if (file[at] == 0 || strchr("\r&<", file[at])) return 1;
+    return 0;
+}
+
+/* Strict mode accepts the mask of every accepted file, and where no byte is escaped it measures the bodies of both alike. */
+static void try_strict(void) {
+    begin("check_strict", 0, 0, 0);
+    demand(hazomeny_check_strict(mask, length) == 0, "a mask that strict mode refuses");
+    if (escaped()) return;
+    begin("html_body_strict", 0, 0, 0);
+    demand(hazomeny_html_body_strict(file, length, NULL, 0) == hazomeny_html_body_strict(mask, length, NULL, 0), "a strict body of another length than the mask's");
+}
+
 /* A text's place mostly; else one that is a text's if only its low bytes count, or any. */
 static uint32_t any_place(void) {
     uint32_t text = texted ? (uint32_t)texts[below(texted)].place : 0;
@@ -257,6 +276,7 @@ static void try_file(void) {
     uint64_t checked = hazomeny_check(file, length);
     accepted += checked == 0;
     if (checked == 0) keep_some();
+    if (checked == 0) try_strict();
     try_masks(checked);
     for (int i = checked ? FEW : COUPLES; i > 0; i--) {
         memcpy(file, kept, kept_length);

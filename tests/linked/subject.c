@@ -5,7 +5,12 @@
 #include <stdlib.h>
 #include <string.h>
 
-enum { HEADER = 11, CHECK = 0, LAYOUT = 1, PLAIN = 2, BODY = 3, DOCUMENT = 4 };
+/* Declared here too, so that the compiler tells of a header that has them otherwise. */
+uint64_t hazomeny_check_strict(const uint8_t *file, size_t length);
+uint64_t hazomeny_html_body_strict(const uint8_t *file, size_t length, uint8_t *page, size_t room);
+uint64_t hazomeny_html_document_strict(const uint8_t *file, size_t length, uint8_t *page, size_t room);
+
+enum { HEADER = 11, CHECK = 0, LAYOUT = 1, PLAIN = 2, BODY = 3, DOCUMENT = 4, CHECK_STRICT = 5, BODY_STRICT = 6, DOCUMENT_STRICT = 7 };
 
 /* What a page is lent filled with: of it a refusal changes nothing, and a page only what it covers. */
 enum { PATTERN = 0xa5 };
@@ -54,6 +59,9 @@ static void answer(const uint8_t *header, uint8_t *file, size_t length) {
     case PLAIN: answer_page(hazomeny_plain, file, length, room); break;
     case BODY: answer_page(hazomeny_html_body, file, length, room); break;
     case DOCUMENT: answer_page(hazomeny_html_document, file, length, room); break;
+    case CHECK_STRICT: respond(hazomeny_check_strict(file, length), file, 0); break;
+    case BODY_STRICT: answer_page(hazomeny_html_body_strict, file, length, room); break;
+    case DOCUMENT_STRICT: answer_page(hazomeny_html_document_strict, file, length, room); break;
     default: stop("no such operation");
     }
 }
