@@ -1,7 +1,10 @@
 // Replays the recorded requests: reads a batch of them on standard input, does each, and prints its answer and all bytes that it was lent, a line each.
 use hazomeny::check_file;
+use hazomeny::check_file_strict;
 use hazomeny::html_body;
+use hazomeny::html_body_strict;
 use hazomeny::html_document;
+use hazomeny::html_document_strict;
 use hazomeny::layout_file;
 use hazomeny::plain_page;
 use libc::STDIN_FILENO;
@@ -15,8 +18,16 @@ use telling::tell_bytes;
 ghost use Prim.Native.Nat.{_<_, _≤_};
 ghost use lib.ListN.{length};
 
-fn replay_check(file: &[u8]) {
-    tell(check_file(file));
+// By the recorded operation: 0 is the file check, 5 that of strict mode.
+fn check_by(op: u8, file: &[u8]) -> Answer {
+    match op {
+        0 => check_file(file),
+        _ => check_file_strict(file),
+    }
+}
+
+fn replay_check(op: u8, file: &[u8]) {
+    tell(check_by(op, file));
     end_line();
 }
 
@@ -26,12 +37,14 @@ fn replay_layout(file: &mut [u8], width: usize) {
     end_line();
 }
 
-// By the recorded operation: 2 is a plain page, 3 a body, 4 a document.
+// By the recorded operation: 2 is a plain page, 3 a body, 4 a document, 6 and 7 are these two in strict mode.
 fn page_by(op: u8, file: &[u8], page: &mut [u8]) -> Answer {
     match op {
         2 => plain_page(file, page),
         3 => html_body(file, page),
-        _ => html_document(file, page),
+        4 => html_document(file, page),
+        6 => html_body_strict(file, page),
+        _ => html_document_strict(file, page),
     }
 }
 
@@ -44,8 +57,9 @@ fn replay_page(op: u8, file: &[u8], page: &mut [u8]) {
 
 fn replay_one(op: u8, width: usize, file: &mut [u8], page: &mut [u8]) {
     match op {
-        0 => replay_check(file),
+        0 => replay_check(op, file),
         1 => replay_layout(file, width),
+        5 => replay_check(op, file),
         _ => replay_page(op, file, page),
     }
 }
