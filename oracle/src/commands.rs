@@ -56,7 +56,8 @@ oracle COMMAND: the Rust original's answers for fragment files
                                response batch
   masks --subject WHAT [--seed S] [--files N | --seconds N]
                                accepted files and masks of them get the same
-                               answers, and one list of bytes gives their pages
+                               answers, and one list of bytes gives their pages,
+                               strict ones too
   pairs --subject WHAT [--seed S] [--files N | --seconds N]
                                masks of files, and couples of files that are
                                pairs or not, are answered as the judge's own

@@ -1,6 +1,6 @@
 //! Request E3, from its words: the mask of a file, and the texts of a pair, by the judge's own check and its tree of fields.
 
-use crate::answers::{page_outcome, Answer, Outcome};
+use crate::answers::{self, page_outcome, Answer, Outcome};
 use crate::check::{check, Refusal};
 use crate::field::{self, Field};
 use crate::masker::Question;
@@ -10,6 +10,7 @@ use crate::tags::*;
 pub fn answer(question: Question) -> Outcome {
     match question {
         Question::Mask { file, room } => page_outcome(&mask(file), room),
+        Question::Strict(asked) => answers::answer(&asked.to_request()),
         Question::Pair {
             original,
             second,

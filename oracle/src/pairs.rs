@@ -3,7 +3,7 @@
 mod couples;
 mod tally;
 
-use crate::answers::{self, Outcome, Request};
+use crate::answers::{self, Operation, Outcome, Request};
 use crate::compare::Stop;
 use crate::damage;
 use crate::extent::Extent;
@@ -16,6 +16,7 @@ use crate::shrink::shrink;
 use crate::subject::Said;
 use crate::wire;
 use couples::Couple;
+use std::iter;
 pub use tally::Tally;
 
 /// In a file of at most so many bytes each one is changed.
@@ -143,8 +144,20 @@ impl Asked {
             };
             rooms.iter().map(asked)
         });
-        masks.chain(self.couples.iter().flat_map(Couple::questions))
+        let files = self.masks.iter().map(|(file, _)| &file[..]);
+        let strict = files.flat_map(strict_questions);
+        let couples = self.couples.iter().flat_map(Couple::questions);
+        masks.chain(strict).chain(couples)
     }
+}
+
+/// The strict check, and the strict body of what it accepts, in just enough room.
+fn strict_questions(file: &[u8]) -> impl Iterator<Item = (Question<'_>, Outcome)> {
+    let check = answers::Asked::page(Operation::CheckStrict, 0, file);
+    let body = answers::rendered(Operation::BodyStrict, file).ok();
+    let body = body.map(|page| answers::Asked::page(Operation::BodyStrict, page.len(), file));
+    let asked = iter::once(check).chain(body).map(Question::Strict);
+    asked.map(|question| (question, pair::answer(question)))
 }
 
 /// No byte, a byte too few, just enough, a byte more, and more.

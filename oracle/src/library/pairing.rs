@@ -21,6 +21,7 @@ impl Masker for Library {
     fn say(&mut self, question: Question) -> Said {
         let said = match question {
             Question::Mask { file, room } => self.mask(file, room),
+            Question::Strict(asked) => return self.outcome(asked),
             Question::Pair {
                 original,
                 second,

@@ -1,6 +1,6 @@
 //! Maskers and readers of pairs that are wrong on purpose: `pairs` has to find each fault, in small files.
 
-use crate::answers::{page_outcome, Answer, Outcome, LENT};
+use crate::answers::{answer, page_outcome, Answer, Asked, Outcome, LENT};
 use crate::check::{check, Refusal};
 use crate::field::{self, Field};
 use crate::masker::{Masker, Question};
@@ -21,12 +21,14 @@ enum Says {
     Mask(fn(&[u8], usize) -> Outcome),
     /// Of the two files and the place.
     Pair(fn(&[u8], &[u8], u32) -> Answer),
+    /// Of what strict mode is asked.
+    Strict(fn(Asked) -> Outcome),
 }
 
 type Row = (&'static str, usize, Says);
 
 #[rustfmt::skip] // one row, one line
-const ALL: [Row; 19] = [
+const ALL: [Row; 20] = [
     ("a newline is masked", 12, Says::Mask(newline_masked)),
     ("a 7 is not masked", 12, Says::Mask(conditional_kept)),
     ("an anchor's name is masked", 12, Says::Mask(name_masked)),
@@ -46,6 +48,7 @@ const ALL: [Row; 19] = [
     ("of a place only the low bytes count", 40, Says::Pair(place_wrapped)),
     ("the header is counted with the text", 40, Says::Pair(header_counted)),
     ("the second file's refusal comes before the first's", 20, Says::Pair(second_first)),
+    ("strict mode refuses an x in a text", 12, Says::Strict(mask_refused)),
 ];
 
 pub fn all() -> Vec<WrongMasker> {
@@ -61,6 +64,7 @@ impl Masker for WrongMasker {
     fn say(&mut self, question: Question) -> Said {
         Ok(match (&self.says, question) {
             (Says::Mask(says), Question::Mask { file, room }) => says(file, room),
+            (Says::Strict(says), Question::Strict(asked)) => says(asked),
             (
                 Says::Pair(says),
                 Question::Pair {
@@ -296,4 +300,17 @@ fn second_first(original: &[u8], second: &[u8], place: u32) -> Answer {
         Err(Refusal { number, place }) => Answer::Refused { number, place },
         Ok(()) => right(original, second, place),
     }
+}
+
+fn mask_refused(asked: Asked) -> Outcome {
+    let mut said = answer(&asked.to_request());
+    let texts = pair::texts_of(&field::parse(asked.file)).into_iter();
+    let mut of_x = texts.filter(|(place, length)| {
+        let text = &asked.file[place + HEADER..][..*length];
+        text.contains(&b'x')
+    });
+    if let (Answer::Accepted(_), Some((place, _))) = (said.answer, of_x.next()) {
+        said.answer = Answer::Refused { number: 14, place };
+    }
+    said
 }
