@@ -1,4 +1,4 @@
-/* Strict HTML as the C header has it: CRs of texts beside today's HTML, in every room around the body's length; and NULs, which are refused. */
+/* Strict HTML as the C header has it: CRs of texts beside loose HTML, in every room around the body's length; and NULs, which are refused. */
 #include "hazomeny.h"
 #include <stdio.h>
 #include <stdlib.h>
@@ -27,8 +27,8 @@ enum { LENGTH = sizeof RETURNS, LOOSE_LENGTH = sizeof LOOSE - 1, STRICT_LENGTH =
 
 static void both_bodies(void) {
     uint8_t page[MOST];
-    need(hazomeny_html_body(RETURNS, LENGTH, page, MOST) == accepted(LOOSE_LENGTH), "the length of today's body");
-    need(memcmp(page, LOOSE, LOOSE_LENGTH) == 0, "today's body has the CRs as they are");
+    need(hazomeny_html_body(RETURNS, LENGTH, page, MOST) == accepted(LOOSE_LENGTH), "the length of the loose body");
+    need(memcmp(page, LOOSE, LOOSE_LENGTH) == 0, "the loose body has the CRs as they are");
     for (size_t room = 0; room <= MOST; room++) {
         uint8_t right[MOST];
         memset(page, 0xa5, MOST);
@@ -73,7 +73,7 @@ static void nuls(void) {
         need(hazomeny_html_document_strict(FILES[i].file, FILES[i].length, page, sizeof page) == right, "a document is refused too");
     }
     need(memcmp(page, before, sizeof page) == 0, "a refusal changes nothing");
-    need(hazomeny_check(FILES[0].file, FILES[0].length) == accepted(0), "today's check takes a NUL");
+    need(hazomeny_check(FILES[0].file, FILES[0].length) == accepted(0), "the loose check takes a NUL");
     need(hazomeny_check_strict(RETURNS, LENGTH) == accepted(0), "a NUL in a name is none in a text");
 }
 

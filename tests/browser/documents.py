@@ -27,13 +27,13 @@ QUOTED = re.compile(r'"[^"]*"')
 
 
 def make(widths):
-    """Documents at each of these widths that give their pages back: today's, and the strict ones of files with a CR in a text."""
+    """Documents at each of these widths that give their pages back: loose ones, and the strict ones of files with a CR in a text."""
     yield from made("html", files(), widths)
     yield from made("html_strict", returns.with_returns(), widths)
 
 
 def make_spoiled(widths):
-    """Documents that do not: today's of files with a CR or a NUL in a text."""
+    """Documents that do not: loose ones of files with a CR or a NUL in a text."""
     yield from made("html", itertools.chain(returns.with_returns(), returns.with_nuls()), widths)
 
 

@@ -1,4 +1,5 @@
-"""Files with carriage returns in their texts, which a browser reads as newlines unless the document is strict, and files with NULs, which it drops."""
+"""Files with carriage returns in their texts, which a browser reads as newlines unless the document is strict, and files with NULs, which it
+drops."""
 
 import pathlib
 
@@ -24,7 +25,7 @@ def field(tag, value=b""):
 
 
 def everywhere(shown):
-    """A file with these bytes in each kind of text: at the page's start, styled, in an anchor, in one that shows only in a broken block, at the page's end."""
+    """A file with these bytes in each kind of text: at the page's start and end, styled, in an anchor, and in one that shows only in a broken block."""
     text = field(1, field(17, shown))
     styled = field(1, field(16) + field(17, shown))
     anchor = field(2, field(18, b"name") + text + styled)

@@ -16,22 +16,22 @@ def nodes(cr):
 
 class Strict(Case):
     def test_returns(self):
-        """Strict HTML is today's HTML of the file with a mark for each CR of a text, with references for the marks."""
+        """Strict HTML is loose HTML of the file with a mark for each CR of a text, with references for the marks."""
         file, other = self.file("file", nodes(b"\r")), self.file("other", nodes(MARK))
         for kind in ([], ["--body"]):
-            today = run("html", *kind, other)[1]
-            self.assertIn(MARK, today)
-            self.ends(["html", "--strict", *kind, file], out=today.replace(MARK, b"&#13;"))
-            self.ends(["html", *kind, file], out=today.replace(MARK, b"\r"))
+            loose = run("html", *kind, other)[1]
+            self.assertIn(MARK, loose)
+            self.ends(["html", "--strict", *kind, file], out=loose.replace(MARK, b"&#13;"))
+            self.ends(["html", *kind, file], out=loose.replace(MARK, b"\r"))
 
     def test_samples_without_returns_are_the_same(self):
         for path in sorted(SAMPLES.glob("*.fragment")):
             for width in ("20", "80"):
                 for kind in ([], ["--body"]):
-                    today, strict = (run("html", *kind, *mode, "-w", width, path) for mode in ([], ["--strict"]))
+                    loose, strict = (run("html", *kind, *mode, "-w", width, path) for mode in ([], ["--strict"]))
                     with self.subTest(path=path, width=width, kind=kind):
-                        self.assertEqual((today[0], strict[0]), (0, 0))
-                        self.assertEqual(today[1] == strict[1], path != RETURNS)
+                        self.assertEqual((loose[0], strict[0]), (0, 0))
+                        self.assertEqual(loose[1] == strict[1], path != RETURNS)
 
     def test_a_nul(self):
         name = os.fsencode(WITH_NUL)

@@ -198,8 +198,9 @@ pub(crate) fn most_html(file: &[u8]) -> usize {
     HTML_PER_BYTE * counted(file) + HTML_FRAME
 }
 
-/// Has a page written behind what a vector holds. It makes room for the most bytes that the page can have. Where a vector that had no room before has some left, its bytes are copied out of it: to
-/// shrink it costs the allocator more, which keeps a large mapping for a small page and makes the next one anew.
+/// Has a page written behind what a vector holds, and makes room for the most bytes that it can have. Where a vector that had no room before has
+/// some left, its bytes are copied out of it: to shrink it costs the allocator more, which keeps a large mapping for a small page and makes the
+/// next one anew.
 pub(crate) fn append(
     entry: PageEntry,
     most: usize,

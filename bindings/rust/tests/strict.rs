@@ -1,4 +1,4 @@
-//! Strict HTML: CRs in texts of every place, beside today's HTML; NULs, which are refused with their place; and what neither concerns.
+//! Strict HTML: CRs in texts of every place, beside loose HTML; NULs, which are refused with their place; and what neither concerns.
 
 mod fields;
 
@@ -11,7 +11,7 @@ type Append = fn(&[u8], &mut Vec<u8>) -> Result<usize, Refusal>;
 /// What a page is lent filled with.
 const LENT: u8 = 0xa5;
 
-/// Today's entry, and the strict one.
+/// The loose entry, and the strict one.
 const PAGES: [(Append, Append); 2] = [
     (append_html_body, append_html_body_strict),
     (append_html_document, append_html_document_strict),
@@ -127,7 +127,7 @@ fn a_nul_of_a_text_is_refused_where_its_field_stands() {
 }
 
 #[test]
-fn today_a_nul_is_taken() {
+fn a_nul_is_taken_where_html_is_loose() {
     let file = everywhere("name", "a\0b");
     assert_eq!(check_file(&file), Ok(0));
     assert_eq!(layout_file(&mut file.clone(), 80), Ok(0));
