@@ -7,7 +7,7 @@ use Rattle.rules.specs.Lines.{char, copied}
 use Rattle.rules.specs.Plain.{fill}
 use Rattle.writing.specs.Written.{Written}
 use Rattle.writing.proofs.Laws.{nothing, then}
-use Rattle.escaping.specs.Runs.{text-by, escaped-text}
+use Rattle.escaping.specs.Runs.{text-by}
 use Rattle.rules.proofs.Fills.{fill-append, fill-makes}
 
 -- ---- one byte

@@ -8,7 +8,7 @@ use Rattle.rules.specs.Result.{Result, refused, accepted, _>>=_, said}
 use Rattle.rules.specs.Good.{Bytes}
 use Rattle.rules.specs.Plain.{fill}
 use Rattle.rules.specs.Answers.{itself, check-answer, check-answer-by, layout-outcome, written, left-page, plain-outcome, coded-outcome, decoded}
-use Rattle.rules.specs.Alike.{Page, plain-page, outcome-of, Clear, look-of, shown}
+use Rattle.rules.specs.Alike.{Page, plain-page, outcome-of, Clear, tree-of, look-of, shown}
 use Rattle.rules.specs.SameWords.{file-fields, without-7, TwoWidths, most-of, Short}
 use Rattle.rules.proofs.Chains.{bind-inv}
 use Rattle.rules.proofs.LeftLaid.{Left, left-by-layout}
@@ -41,7 +41,8 @@ short-page k w s q b p C =
     let u : List ℕ = layout-outcome w s .1 in
     let L : Left s t u = left-by-layout w s t b e in
     let text : List ℕ = fill itself (shown k (look-of k) newline (L .root)) in
-    rw (by-kind k u q, clear-tree k u _ (L .are-bytes) (L .reads) (left-clear k w s t b e C)) (short-text (most-of k (length s)) text q (rw (L .same-length) at (page-most k u (L .root) (L .are-bytes) (L .reads))))
+    let reads : tree-of k u ≡ accepted (L .root) = clear-tree k u _ (L .are-bytes) (L .reads) (left-clear k w s t b e C) in
+    rw (by-kind k u q, reads) (short-text (most-of k (length s)) text q (rw (L .same-length) at (page-most k u (L .root) (L .are-bytes) reads)))
 
 -- s is an accepted file; `a` is layout's answer to it at w, t what is left, `c` a page's answer to that, r what is left of the page q
 module _ (s : List ℕ) (b : Bytes s) (p : check-answer s ≡ accepted 0) where

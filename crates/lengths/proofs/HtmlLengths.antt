@@ -10,12 +10,12 @@ use Rattle.rules.specs.Good.{Bytes, Good, GoodTree}
 use Rattle.rules.specs.Lines.{Out, made, copied, push, pop, open-anchor, close-anchor, Item, char, marked, items}
 use Rattle.rules.specs.Plain.{fill}
 use Rattle.rules.specs.Html.{open-tag, close-tag, Escape, ampersand, less-than, carriage-return, as-it-is, escape, strict-escape, opening, closing, makes, copies, escaped, id-attribute, mark-html, item-html, items-html, body, before-body, after-body, document}
-use Rattle.rules.specs.Answers.{itself, tree}
+use Rattle.rules.specs.Answers.{itself}
 use Rattle.rules.specs.Alike.{Page, plain-page, html-body, html-document, strict-body, strict-document, tree-of, look-of, shown}
 use Rattle.rules.specs.SameWords.{most-of}
 use Rattle.rules.proofs.Open.{all-open}
 use Rattle.rules.proofs.Files.{tree-read}
-use Rattle.rules.proofs.Strict.{strict-read}
+use Rattle.rules.proofs.Strict.{loose-tree}
 use Rattle.rules.proofs.Demand3.{fill-length}
 use Rattle.rules.proofs.ItemCosts.{cost-all, pay}
 use Rattle.rules.proofs.PageLengths.{items-paid, plain-most}
@@ -131,14 +131,6 @@ tree-most html-body t G z = omega (arith, body-most escape t G z, frame-length)
 tree-most html-document t G z = omega (arith, document-most escape t G z, frame-length)
 tree-most strict-body t G z = omega (arith, body-most strict-escape t G z, frame-length)
 tree-most strict-document t G z = omega (arith, document-most strict-escape t G z, frame-length)
-
--- a file that a page is made of is document 01's, with the same tree
-pub loose-tree : (k : Page) (s : List ℕ) (t : Frag ℕ) → Bytes s → tree-of k s ≡ accepted t → tree s ≡ accepted t
-loose-tree plain-page s t bs e = e
-loose-tree html-body s t bs e = e
-loose-tree html-document s t bs e = e
-loose-tree strict-body s t bs e = strict-read s t bs e .0
-loose-tree strict-document s t bs e = strict-read s t bs e .0
 
 -- THE PAGE OF AN ACCEPTED FILE HAS AT MOST THE BYTES THAT `most-of` SAYS OF THE FILE'S LENGTH
 pub page-most : (k : Page) (s : List ℕ) (t : Frag ℕ) → Bytes s → tree-of k s ≡ accepted t → length (fill itself (shown k (look-of k) newline t)) ≤ most-of k (length s)

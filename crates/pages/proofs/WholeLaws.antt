@@ -1,72 +1,79 @@
 -- The page of a whole file: what is refused, how long it is, and what is written.
-use Rattle.rules.proofs.Basics.{_≡_, refl, sym, ap, subst, _∙_, List, [], _++_, append-nil, append-assoc, Bool, true, false, _&&_, ℕ, _+_, _*_, _/_, _<_, _≤_, arith, leb, length, leb-true, le-leb, lt-leb}
+use Rattle.rules.proofs.Basics.{_≡_, refl, sym, ap, subst, _∙_, List, [], _++_, append-nil, append-assoc, Bool, true, false, _&&_, ℕ, _+_, _*_, _/_, _<_, _≤_, arith, le-trans, leb, length, leb-true, le-leb, lt-leb}
 use Rattle.rules.specs.Limits.{plain-per-byte, html-per-byte, html-frame}
 use Rattle.rules.specs.Bytes.{newline}
 use Rattle.rules.specs.declared.Refusal.{Refusal}
 use Rattle.rules.specs.declared.Answer.{Answer}
 use Rattle.rules.specs.declared.Answer.the-variants.{Done, Refused}
-use Rattle.rules.specs.Result.{refused, accepted, _>>=_, said}
+use Rattle.rules.specs.Result.{Result, refused, accepted, _>>=_, said}
 use Rattle.rules.specs.Tree.{Frag}
 use Rattle.rules.specs.Encode.{encode}
 use Rattle.rules.specs.Good.{Bytes, GoodTree}
 use Rattle.rules.specs.Lines.{start, Item, items}
 use Rattle.rules.specs.Plain.{plain, fill}
-use Rattle.rules.specs.Html.{escape, makes, items-html, opening, closing, before-body, after-body, body, document}
-use Rattle.rules.specs.Alike.{plain-page, html-body, html-document}
-use Rattle.rules.specs.Answers.{itself, tree, check-answer, written, left-page, plain-text-by, plain-outcome-by, body-text-by, body-outcome-by, document-text-by, document-outcome-by}
+use Rattle.rules.specs.Html.{Escape, escape, strict-escape, makes, items-html, opening, closing, before-body, after-body, body, document}
+use Rattle.rules.specs.Alike.{tree-of}
+use Rattle.rules.specs.SameWords.{most-of}
+use Rattle.rules.specs.Answers.{itself, check-answer, strict-check-answer, check-answer-by, written, left-page}
 use Rattle.rules.proofs.Chains.{no-path}
-use Rattle.verify.proofs.Verdicts.{RefusedSo, refused-so, AcceptedAs, accepted-as}
+use Rattle.rules.proofs.Demand3.{by-kind}
+use Rattle.rules.proofs.Files.{Read, tree-read}
+use Rattle.verify.proofs.Verdicts.{refused-by, accepted-by}
 use Rattle.writing.specs.Written.{last, Written}
 use Rattle.writing.proofs.Laws as writing
 use Rattle.writing.proofs.Laws.{how-long, fits, no-page}
 use Rattle.pages.specs.OpsIn.{fragment-in}
 use Rattle.pens.specs.Ran.{shown, machine, form, Rendered}
-use Rattle.pages.specs.Kinds.{form-of, head, foot, page-in, page-of, longest-for, html-fits, surely-fits, page-outcome}
+use Rattle.pages.specs.Kinds.{page-kind, form-of, framing-of, head, foot, page-in, page-of, longest-for, html-fits, surely-fits, page-outcome}
+use Rattle.pages.specs.declared.frame.Framing.{Framing}
 use Rattle.pages.specs.declared.frame.Kind as K
 use Rattle.pages.specs.declared.frame.Kind.{Kind}
 use Rattle.pens.specs.declared.pen.Pen.{Pen}
+use Rattle.pens.specs.declared.state.Form as F
 use Rattle.pages.proofs.OfTrees.{ops-tree}
+use Rattle.rules.proofs.Strict.{loose-tree}
 use Rattle.lengths.proofs.HtmlLengths.{page-most, page-short}
 use Rattle.rules.proofs.Fills.{fill-append, fill-makes}
 
 -- ---- the pen over a whole file
 
-pub whole-page : (k : Kind) (s : List ℕ) {p p′ : Pen} {page page₁ page₂ page₃ : List ℕ} {r : ℕ} → Written page 0 (head k) page₁ (p .at) → form p ≡ form-of k
-    → machine p ≡ start → Rendered (fragment-in 32 false 0 s) p page₁ p′ page₂ → Written page₂ (p′ .at) (foot k) page₃ r
+pub whole-page : (k : Kind) (s : List ℕ) {w : Framing} {p p′ : Pen} {page page₁ page₂ page₃ : List ℕ} {r : ℕ} → w ≡ framing-of k → Written page 0 (head w) page₁ (p .at)
+    → form p ≡ form-of k → machine p ≡ start → Rendered (fragment-in 32 false 0 s) p page₁ p′ page₂ → Written page₂ (p′ .at) (foot w) page₃ r
     → Written page 0 (page-in k s) page₃ r
 unfolding page-in
-whole-page k s h f e r g = writing.then h (writing.then (rw (f, e) at (r .ran .written)) g)
+whole-page k s q h f e r g = rw (← q) (writing.then h (writing.then (rw (f, e) at (r .ran .written)) g))
 
--- ---- the three kinds
+-- ---- the kinds
 
-makes-items : (is : List (Item ℕ)) (a b : List ℕ) → fill itself (makes a ++ (items-html escape is ++ makes b)) ≡ a ++ (fill itself (items-html escape is) ++ b)
-makes-items is a b =
-    fill-append (makes a) (items-html escape is ++ makes b)
-    ∙ rw (fill-makes a, fill-append (items-html escape is) (makes b), fill-makes b)
+module _ (look : ℕ → Escape) (is : List (Item ℕ)) where
+  makes-items : (a b : List ℕ) → fill itself (makes a ++ (items-html look is ++ makes b)) ≡ a ++ (fill itself (items-html look is) ++ b)
+  makes-items a b =
+      fill-append (makes a) (items-html look is ++ makes b)
+      ∙ rw (fill-makes a, fill-append (items-html look is) (makes b), fill-makes b)
 
--- the document's frame around the body's
-framed-items : (is : List (Item ℕ)) → fill itself (makes before-body ++ ((makes opening ++ (items-html escape is ++ makes closing)) ++ makes after-body))
-    ≡ (before-body ++ opening) ++ (fill itself (items-html escape is) ++ (closing ++ after-body))
-framed-items is =
-    let inner : List ℕ = fill itself (items-html escape is) in
-    fill-append (makes before-body) ((makes opening ++ (items-html escape is ++ makes closing)) ++ makes after-body)
-    ∙ rw (fill-makes before-body, fill-append (makes opening ++ (items-html escape is ++ makes closing)) (makes after-body), fill-makes after-body, makes-items is opening closing)
-    (framed before-body opening inner closing after-body)
-  where
-    framed : (a b c d e : List ℕ) → a ++ ((b ++ (c ++ d)) ++ e) ≡ (a ++ b) ++ (c ++ (d ++ e))
-    framed a b c d e = rw (append-assoc b (c ++ d) e, append-assoc c d e, append-assoc a b (c ++ (d ++ e)))
+  -- the document's frame around the body's
+  framed-items : fill itself (makes before-body ++ ((makes opening ++ (items-html look is ++ makes closing)) ++ makes after-body))
+      ≡ (before-body ++ opening) ++ (fill itself (items-html look is) ++ (closing ++ after-body))
+  framed-items =
+      let inner : List ℕ = fill itself (items-html look is) in
+      fill-append (makes before-body) ((makes opening ++ (items-html look is ++ makes closing)) ++ makes after-body)
+      ∙ rw (fill-makes before-body, fill-append (makes opening ++ (items-html look is ++ makes closing)) (makes after-body), fill-makes after-body, makes-items opening closing)
+      (framed before-body opening inner closing after-body)
+    where
+      framed : (a b c d e : List ℕ) → a ++ ((b ++ (c ++ d)) ++ e) ≡ (a ++ b) ++ (c ++ (d ++ e))
+      framed a b c d e = rw (append-assoc b (c ++ d) e, append-assoc c d e, append-assoc a b (c ++ (d ++ e)))
 
 page-by-bytes : (k : Kind) (t : Frag ℕ) → GoodTree t → page-in k (encode t) ≡ page-of k t
-unfolding page-in page-of form-of head foot shown plain body document items
+unfolding page-in page-of form-of framing-of head foot shown plain body document items
 page-by-bytes K.the-variants.Plain t G = rw (ops-tree t G) (append-nil _)
-page-by-bytes K.the-variants.Body t G = rw (ops-tree t G) (sym (makes-items (items newline t) opening closing))
-page-by-bytes K.the-variants.Document t G = rw (ops-tree t G) (sym (framed-items (items newline t)))
+page-by-bytes K.the-variants.Body t G = rw (ops-tree t G) (sym (makes-items escape (items newline t) opening closing))
+page-by-bytes K.the-variants.Document t G = rw (ops-tree t G) (sym (framed-items escape (items newline t)))
+page-by-bytes K.the-variants.StrictBody t G = rw (ops-tree t G) (sym (makes-items strict-escape (items newline t) opening closing))
+page-by-bytes K.the-variants.StrictDocument t G = rw (ops-tree t G) (sym (framed-items strict-escape (items newline t)))
 
 page-last : (k : Kind) (t : Frag ℕ) → GoodTree t → Bytes (encode t) → length (page-of k t) ≤ last
 unfolding page-of
-page-last K.the-variants.Plain t G b = omega (arith, page-short plain-page t G b)
-page-last K.the-variants.Body t G b = omega (arith, page-short html-body t G b)
-page-last K.the-variants.Document t G b = omega (arith, page-short html-document t G b)
+page-last k t G b = omega (arith, page-short (page-kind k) t G b)
 
 -- room for an HTML page of n bytes, with what stands around its items
 html-room : (n room : ℕ) → html-fits n room ≡ true → html-per-byte * n + html-frame ≤ room
@@ -79,44 +86,72 @@ html-room n room h =
     both true b e = (refl, e)
     both false b e = no-path cc
 
+room-for : (k : Kind) (n room : ℕ) → surely-fits k n room ≡ true → most-of (page-kind k) n ≤ room
+unfolding surely-fits
+room-for K.the-variants.Plain n room h = omega (arith, leb-true n (room / plain-per-byte) h)
+room-for K.the-variants.Body n room h = html-room n room h
+room-for K.the-variants.Document n room h = html-room n room h
+room-for K.the-variants.StrictBody n room h = html-room n room h
+room-for K.the-variants.StrictDocument n room h = html-room n room h
+
+-- how a kind's file is read
+abbrev tree-for : Kind → List ℕ → Result (Frag ℕ)
+tree-for k s = tree-of (page-kind k) s
+
 -- a page that surely fits, fits
-fits-surely : (k : Kind) (s : List ℕ) (t : Frag ℕ) (room : ℕ) → Bytes s → tree s ≡ accepted t → surely-fits k (length s) room ≡ true → length (page-of k t) ≤ room
-unfolding surely-fits page-of
-fits-surely K.the-variants.Plain s t room b e h =
-    omega (arith, page-most plain-page s t b e, leb-true (length s) (room / plain-per-byte) h)
-fits-surely K.the-variants.Body s t room b e h = omega (arith, page-most html-body s t b e, html-room (length s) room h)
-fits-surely K.the-variants.Document s t room b e h = omega (arith, page-most html-document s t b e, html-room (length s) room h)
+fits-surely : (k : Kind) (s : List ℕ) (t : Frag ℕ) (room : ℕ) → Bytes s → tree-for k s ≡ accepted t → surely-fits k (length s) room ≡ true → length (page-of k t) ≤ room
+unfolding page-of
+fits-surely k s t room b e h = le-trans (page-most (page-kind k) s t b e) (room-for k (length s) room h)
 
 -- what a kind answers, by its page
-outcome-of : (k : Kind) (s page : List ℕ) → left-page (tree s >>= (λ t. accepted (page-of k t))) page ≡ page-outcome k s page
-unfolding page-outcome page-of plain-outcome-by plain-text-by body-outcome-by body-text-by document-outcome-by document-text-by _>>=_
-outcome-of K.the-variants.Plain s page = refl
-outcome-of K.the-variants.Body s page = refl
-outcome-of K.the-variants.Document s page = refl
+outcome-of : (k : Kind) (s page : List ℕ) → left-page (tree-for k s >>= (λ t. accepted (page-of k t))) page ≡ page-outcome k s page
+unfolding page-outcome page-of
+outcome-of k s page = sym (by-kind (page-kind k) s page)
+
+-- ---- the file check in a kind's mode
+
+pub loose-check : (k : Kind) (s : List ℕ) {f : F.Form} → f ≡ form-of k → (f ≡ F.the-variants.Strict → ⊥) → check-answer s ≡ check-answer-by (tree-of (page-kind k)) s
+unfolding form-of
+loose-check K.the-variants.Plain s e n = refl
+loose-check K.the-variants.Body s e n = refl
+loose-check K.the-variants.Document s e n = refl
+loose-check K.the-variants.StrictBody s e n = absurd (n e)
+loose-check K.the-variants.StrictDocument s e n = absurd (n e)
+
+pub strict-check : (k : Kind) (s : List ℕ) → F.the-variants.Strict ≡ form-of k → strict-check-answer s ≡ check-answer-by (tree-of (page-kind k)) s
+unfolding form-of
+strict-check K.the-variants.Plain s e = no-path (cc)
+strict-check K.the-variants.Body s e = no-path (cc)
+strict-check K.the-variants.Document s e = no-path (cc)
+strict-check K.the-variants.StrictBody s e = refl
+strict-check K.the-variants.StrictDocument s e = refl
 
 -- ---- what each kind answers: by the text of a tree, and by the bytes of its file
 
 module _ (k : Kind) (s page : List ℕ) where
-  pub page-refused : (a : Answer) {r : Refusal} → a ≡ Refused r → said a ≡ check-answer s → (said a, page) ≡ page-outcome k s page
+  pub page-refused : (a : Answer) {r : Refusal} → a ≡ Refused r → said a ≡ check-answer-by (tree-of (page-kind k)) s → (said a, page) ≡ page-outcome k s page
   unfolding left-page _>>=_
   page-refused a q e =
-      let R : RefusedSo s (said a) = refused-so s a q e in
-      ap (λ r. (r, page)) (R .says) ∙ sym (ap (λ x. left-page (x >>= (λ t. accepted (page-of k t))) page) (R .no-tree)) ∙ outcome-of k s page
+      let (n, p, no-tree, says) = refused-by (tree-of (page-kind k)) s a e q in
+      ap (λ r. (r, page)) says ∙ sym (ap (λ x. left-page (x >>= (λ t. accepted (page-of k t))) page) no-tree) ∙ outcome-of k s page
 
   -- an accepted file's text, by its bytes, and its length
-  module _ (b : Bytes s) (a : Answer) {n : ℕ} (q : a ≡ Done n) (e : said a ≡ check-answer s) where
-    abbrev A : AcceptedAs s
-    A = accepted-as s a b q e
+  module _ (b : Bytes s) (a : Answer) {n : ℕ} (q : a ≡ Done n) (e : said a ≡ check-answer-by (tree-of (page-kind k)) s) where
+    abbrev A : (t : Frag ℕ) × (tree-of (page-kind k) s ≡ accepted t)
+    A = accepted-by (tree-of (page-kind k)) s a e q
 
-    accepted-text : page-in k s ≡ page-of k (A .root)
-    accepted-text = ap (page-in k) (sym (A .read .encodes)) ∙ page-by-bytes k (A .root) (A .read .good)
+    abbrev R : Read s (A .0)
+    R = tree-read s (A .0) b (loose-tree (page-kind k) s (A .0) b (A .1))
+
+    accepted-text : page-in k s ≡ page-of k (A .0)
+    accepted-text = ap (page-in k) (sym (R .encodes)) ∙ page-by-bytes k (A .0) (R .good)
 
     accepted-outcome : page-outcome k s page ≡ written (leb (length (page-in k s)) (length page)) (page-in k s) page
     unfolding left-page _>>=_
-    accepted-outcome = sym (outcome-of k s page) ∙ rw (A .its-tree, accepted-text)
+    accepted-outcome = sym (outcome-of k s page) ∙ rw (A .1, accepted-text)
 
     text-short : length (page-in k s) ≤ last
-    text-short = rw accepted-text (page-last k (A .root) (A .read .good) (subst Bytes (sym (A .read .encodes)) b))
+    text-short = rw accepted-text (page-last k (A .0) (R .good) (subst Bytes (sym (R .encodes)) b))
 
     -- a page that fits is written
     page-fits : {r : ℕ} {page′ : List ℕ} → length (page-in k s) ≤ length page → Written page 0 (page-in k s) page′ r → (accepted r, page′) ≡ page-outcome k s page
@@ -125,7 +160,7 @@ module _ (k : Kind) (s page : List ℕ) where
 
     -- one that fits whatever the file is, without being measured
     pub page-written-at-once : {r : ℕ} {page′ : List ℕ} → surely-fits k (length s) (length page) ≡ true → Written page 0 (page-in k s) page′ r → (accepted r, page′) ≡ page-outcome k s page
-    page-written-at-once h w = page-fits (rw accepted-text (fits-surely k s (A .root) (length page) b (A .its-tree) h)) w
+    page-written-at-once h w = page-fits (rw accepted-text (fits-surely k s (A .0) (length page) b (A .1) h)) w
 
     -- measuring lends no page, and leaves none in front of the page itself
     module _ {needed : ℕ} {x : List ℕ} (m : Written [] 0 (page-in k s) x needed) where

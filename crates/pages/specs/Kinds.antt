@@ -8,39 +8,57 @@ use Rattle.rules.specs.Bytes.{newline}
 use Rattle.rules.specs.Result.{Result}
 use Rattle.rules.specs.Tree.{Frag}
 use Rattle.rules.specs.Lines.{start, run}
-use Rattle.rules.specs.Plain.{plain, fill}
-use Rattle.rules.specs.Html.{escape, opening, closing, before-body, after-body, body, document}
-use Rattle.rules.specs.Answers.{itself, plain-outcome, body-outcome, document-outcome}
+use Rattle.rules.specs.Plain.{fill}
+use Rattle.rules.specs.Html.{opening, closing, before-body, after-body}
+use Rattle.rules.specs.Answers.{itself}
+use Rattle.rules.specs.Alike as rules
+use Rattle.rules.specs.Alike.{Page, plain-page, html-body, html-document, strict-body, strict-document, look-of, outcome-of}
 use Rattle.pages.specs.OpsIn.{fragment-in}
 use Rattle.pens.specs.Ran.{shown}
 use Rattle.pens.specs.declared.state.Form as F
+use Rattle.pages.specs.declared.frame.Framing as Fr
 use Rattle.pages.specs.declared.frame.Kind as K
+
+-- the rules' page
+abbrev pub page-kind : K.Kind → Page
+page-kind K.the-variants.Plain = plain-page
+page-kind K.the-variants.Body = html-body
+page-kind K.the-variants.Document = html-document
+page-kind K.the-variants.StrictBody = strict-body
+page-kind K.the-variants.StrictDocument = strict-document
 
 unfoldable pub form-of : K.Kind → F.Form
 form-of K.the-variants.Plain = F.the-variants.Plain
 form-of K.the-variants.Body = F.the-variants.Html
 form-of K.the-variants.Document = F.the-variants.Html
+form-of K.the-variants.StrictBody = F.the-variants.Strict
+form-of K.the-variants.StrictDocument = F.the-variants.Strict
+
+unfoldable pub framing-of : K.Kind → Fr.Framing
+framing-of K.the-variants.Plain = Fr.the-variants.Nothing
+framing-of K.the-variants.Body = Fr.the-variants.Body
+framing-of K.the-variants.Document = Fr.the-variants.Document
+framing-of K.the-variants.StrictBody = Fr.the-variants.Body
+framing-of K.the-variants.StrictDocument = Fr.the-variants.Document
 
 -- what stands before the items, and behind them
-unfoldable pub head : K.Kind → List ℕ
-head K.the-variants.Plain = []
-head K.the-variants.Body = opening
-head K.the-variants.Document = before-body ++ opening
+unfoldable pub head : Fr.Framing → List ℕ
+head Fr.the-variants.Nothing = []
+head Fr.the-variants.Body = opening
+head Fr.the-variants.Document = before-body ++ opening
 
-unfoldable pub foot : K.Kind → List ℕ
-foot K.the-variants.Plain = []
-foot K.the-variants.Body = closing
-foot K.the-variants.Document = closing ++ after-body
+unfoldable pub foot : Fr.Framing → List ℕ
+foot Fr.the-variants.Nothing = []
+foot Fr.the-variants.Body = closing
+foot Fr.the-variants.Document = closing ++ after-body
 
 -- the page of some bytes, whether they are a file or not
 unfoldable pub page-in : K.Kind → List ℕ → List ℕ
-page-in k s = head k ++ (shown (form-of k) (run start (fragment-in most-blocks false 0 s)) ++ foot k)
+page-in k s = head (framing-of k) ++ (shown (form-of k) (run start (fragment-in most-blocks false 0 s)) ++ foot (framing-of k))
 
 -- the page of a tree
 unfoldable pub page-of : K.Kind → Frag ℕ → List ℕ
-page-of K.the-variants.Plain t = fill itself (plain newline t)
-page-of K.the-variants.Body t = fill itself (body escape newline t)
-page-of K.the-variants.Document t = fill itself (document escape newline t)
+page-of k t = fill itself (rules.shown (page-kind k) (look-of (page-kind k)) newline t)
 
 -- the longest file whose HTML fits in so much room with its frame, whatever the file is
 unfoldable pub longest-for : (room : ℕ) → ℕ
@@ -55,8 +73,8 @@ unfoldable pub surely-fits : K.Kind → (n room : ℕ) → Bool
 surely-fits K.the-variants.Plain n room = leb n (room / plain-per-byte)
 surely-fits K.the-variants.Body n room = html-fits n room
 surely-fits K.the-variants.Document n room = html-fits n room
+surely-fits K.the-variants.StrictBody n room = html-fits n room
+surely-fits K.the-variants.StrictDocument n room = html-fits n room
 
 unfoldable pub page-outcome : K.Kind → (s page : List ℕ) → Result ℕ × List ℕ
-page-outcome K.the-variants.Plain s page = plain-outcome s page
-page-outcome K.the-variants.Body s page = body-outcome s page
-page-outcome K.the-variants.Document s page = document-outcome s page
+page-outcome k s page = outcome-of (page-kind k) s page

@@ -3,10 +3,19 @@ use pens::state::Form;
 use writing::put_bytes;
 ghost use mathlib.Core.Path.{_≡_};
 ghost use Rattle.writing.specs.Written.{Written};
-ghost use Rattle.pages.specs.Kinds.{form-of, head, foot};
+ghost use Rattle.pages.specs.Kinds.{form-of, framing-of, head, foot};
 
 pub enum Kind {
     Plain,
+    Body,
+    Document,
+    StrictBody,
+    StrictDocument,
+}
+
+// What stands around the items: nothing, the body's element, or the document and that element. Strict mode changes none of it.
+pub enum Framing {
+    Nothing,
     Body,
     Document,
 }
@@ -62,17 +71,31 @@ pub fn form_of(kind: Kind) -> Form
         Kind::Plain => Form::Plain,
         Kind::Body => Form::Html,
         Kind::Document => Form::Html,
+        Kind::StrictBody => Form::Strict,
+        Kind::StrictDocument => Form::Strict,
+    }
+}
+
+pub fn framing_of(kind: Kind) -> Framing
+    ensures { λ r. ⌜ r ≡ framing-of kind ⌝ }
+{
+    match kind {
+        Kind::Plain => Framing::Nothing,
+        Kind::Body => Framing::Body,
+        Kind::Document => Framing::Document,
+        Kind::StrictBody => Framing::Body,
+        Kind::StrictDocument => Framing::Document,
     }
 }
 
 // What stands before the items.
-pub fn put_head(page: &mut [u8], at: usize, kind: Kind) -> usize
-    ensures { λ r. ⌜ Written (now (page .entry)) at (head kind) (now (page .exit)) r ⌝ }
+pub fn put_head(page: &mut [u8], at: usize, framing: Framing) -> usize
+    ensures { λ r. ⌜ Written (now (page .entry)) at (head framing) (now (page .exit)) r ⌝ }
 {
-    match kind {
-        Kind::Plain => at,
-        Kind::Body => put_bytes(page, at, &OPENING),
-        Kind::Document => {
+    match framing {
+        Framing::Nothing => at,
+        Framing::Body => put_bytes(page, at, &OPENING),
+        Framing::Document => {
             let body = put_bytes(page, at, &BEFORE_BODY);
             put_bytes(page, body, &OPENING)
         }
@@ -80,13 +103,13 @@ pub fn put_head(page: &mut [u8], at: usize, kind: Kind) -> usize
 }
 
 // What stands behind them.
-pub fn put_foot(page: &mut [u8], at: usize, kind: Kind) -> usize
-    ensures { λ r. ⌜ Written (now (page .entry)) at (foot kind) (now (page .exit)) r ⌝ }
+pub fn put_foot(page: &mut [u8], at: usize, framing: Framing) -> usize
+    ensures { λ r. ⌜ Written (now (page .entry)) at (foot framing) (now (page .exit)) r ⌝ }
 {
-    match kind {
-        Kind::Plain => at,
-        Kind::Body => put_bytes(page, at, &CLOSING),
-        Kind::Document => {
+    match framing {
+        Framing::Nothing => at,
+        Framing::Body => put_bytes(page, at, &CLOSING),
+        Framing::Document => {
             let body = put_bytes(page, at, &CLOSING);
             put_bytes(page, body, &AFTER_BODY)
         }

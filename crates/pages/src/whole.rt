@@ -1,11 +1,13 @@
 // The page of a whole file: checked, measured where it might not fit, then written.
 use crate::frame::Kind;
 use crate::frame::form_of;
+use crate::frame::framing_of;
 use crate::frame::put_foot;
 use crate::frame::put_head;
 use crate::walk::render_fragment;
 use lines::start;
 use pens::pen::Pen;
+use pens::state::Form;
 use pens::state::state_of;
 use rules::Answer;
 use rules::HTML_FRAME;
@@ -14,22 +16,26 @@ use rules::MOST_BLOCKS;
 use rules::PLAIN_PER_BYTE;
 use rules::Refusal;
 use verify::walk::check;
+use verify::walk::check_strict;
 ghost use mathlib.Core.Path.{_≡_};
 ghost use Rattle.rules.specs.Result.{said};
+ghost use Rattle.rules.specs.Alike.{tree-of};
+ghost use Rattle.rules.specs.Answers.{check-answer-by};
 ghost use Rattle.writing.specs.Written.{Written};
-ghost use Rattle.pages.specs.Kinds.{page-in, html-fits, surely-fits, page-outcome};
+ghost use Rattle.pages.specs.Kinds.{page-kind, page-in, html-fits, surely-fits, page-outcome};
 
 // Writes the page as far as it goes, and answers how many bytes all of it needs.
 fn render(kind: Kind, file: &[u8], page: &mut [u8]) -> usize
     ensures { λ r. ⌜ Written (now (page .entry)) 0 (page-in kind (now (file .entry))) (now (page .exit)) r ⌝ }
 {
-    let at = put_head(page, 0, kind);
+    let framing = framing_of(kind);
+    let at = put_head(page, 0, framing);
     let pen = Pen {
         at,
         state: state_of(start(), form_of(kind)),
     };
     let p = render_fragment(file, 0, page, pen, false, MOST_BLOCKS);
-    put_foot(page, p.at, kind)
+    put_foot(page, p.at, framing)
 }
 
 // Whether an HTML page of a file of n bytes fits without being measured: what stands around the items, and at most HTML_PER_BYTE for each byte.
@@ -51,14 +57,26 @@ fn surely_fits(kind: Kind, n: usize, room: usize) -> bool
         Kind::Plain => n <= room / PLAIN_PER_BYTE,
         Kind::Body => html_fits(n, room),
         Kind::Document => html_fits(n, room),
+        Kind::StrictBody => html_fits(n, room),
+        Kind::StrictDocument => html_fits(n, room),
     }
+}
+
+// The file check, in the kind's mode.
+fn check_for(kind: Kind, file: &[u8]) -> Answer
+    ensures { λ r. ⌜ said r ≡ check-answer-by (tree-of (page-kind kind)) (now (file .entry)) ⌝ }
+{
+    let Form::Strict = form_of(kind) else {
+        return check(file);
+    };
+    check_strict(file)
 }
 
 // Answers the page's length, and writes it from the page's start; a refusal changes no byte.
 pub fn render_page(kind: Kind, file: &[u8], page: &mut [u8]) -> Answer
     ensures { λ r. ⌜ (said r, now (page .exit)) ≡ page-outcome kind (now (file .entry)) (now (page .entry)) ⌝ }
 {
-    let a = check(file);
+    let a = check_for(kind, file);
     let Answer::Done(n) = a else {
         return a;
     };

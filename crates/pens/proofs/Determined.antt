@@ -1,4 +1,4 @@
--- No second answer satisfies the contracts of this crate. A pen is fixed by what it says: a waiting newline has two numbers.
+-- No second answer satisfies the contracts of this crate. A pen is fixed by what it says: a waiting newline has two numbers, and so has the strict form.
 use Rattle.rules.proofs.Basics.{_≡_, sym, _∙_, List, ℕ}
 use Rattle.lines.specs.declared.LineOp.{LineOp}
 use Rattle.writing.proofs.Determined.{written-unique}

@@ -5,5 +5,6 @@ use Rattle.pages.proofs.frame.form_of.Statement.{statement}
 use Rattle.pages.proofs.frame.form_of.Tie as tie
 
 pub form-of-spec : {M : Type 1} → statement M
-form-of-spec = tie.close (tie.spec (λ c. search needs) (λ c. search needs) (λ c. search needs) (λ c. unfold form-of in rw (c .enum-told .given .1))
-    (λ c. unfold form-of in rw (c .enum-told2 .given .1)) (λ c. unfold form-of in rw (c .enum-told3 .given .1)))
+form-of-spec = tie.close (tie.spec (λ c. search needs) (λ c. search needs) (λ c. search needs) (λ c. search needs) (λ c. search needs)
+    (λ c. unfold form-of in rw (c .enum-told .given .1)) (λ c. unfold form-of in rw (c .enum-told2 .given .1)) (λ c. unfold form-of in rw (c .enum-told3 .given .1))
+    (λ c. unfold form-of in rw (c .enum-told4 .given .1)) (λ c. unfold form-of in rw (c .enum-told5 .given .1)))

@@ -8,7 +8,9 @@ use Rattle.pages.proofs.whole.render.Statement.{statement}
 use Rattle.pages.proofs.whole.render.Tie as tie
 
 pub render-spec : {M : Type 1} → statement M
-render-spec = tie.close (tie.spec (λ c κs. search needs) (λ c κs. search needs) (λ c κs. search needs) (λ c κs. start-fits _ (c .before .start .ensures))
+render-spec = tie.close (tie.spec (λ c κs. search needs) (λ c κs. search needs) (λ c κs. search needs) (λ c κs. search needs) (λ c κs. start-fits _ (c .before .start .ensures))
     (λ c κs. unfold start indent-of in omega (arith, ap (λ (m : Machine). m .level) (c .before .state-of .ensures .0 ∙ c .before .before .before .start .ensures)))
     (λ c κs. search needs) (λ c. search needs)
-    (λ c. whole-page _ _ (c .before .before .before .before .before .before .before .before .before .before .before .before .before .put-head .ensures) (c .before .before .before .before .before .before .before .before .state-of .ensures .1 ∙ c .before .before .before .before .before .before .before .before .before .form-of .ensures) (c .before .before .before .before .before .before .before .before .state-of .ensures .0 ∙ c .before .before .before .before .before .before .before .before .before .before .start .ensures) (c .before .before .before .before .before .before .render-fragment .ensures) (c .before .before .put-foot .ensures)))
+    (λ c. let t : tie.After-put-foot = search in let r : tie.After-render-fragment = search in let o : tie.After-state-of = search in let f : tie.After-form-of = search in
+    let b : tie.After-start = search in let h : tie.After-put-head = search in let w : tie.After-framing-of = search in
+    whole-page _ _ (w .framing-of .ensures) (h .put-head .ensures) (o .state-of .ensures .1 ∙ f .form-of .ensures) (o .state-of .ensures .0 ∙ b .start .ensures) (r .render-fragment .ensures) (t .put-foot .ensures)))

@@ -8,9 +8,9 @@ use Rattle.pages.proofs.whole.render_page.Tie as tie
 
 pub render-page-spec : {M : Type 1} → statement M
 render-page-spec = tie.close (tie.spec (λ c κs. search needs) (λ c. search needs) (λ c. search needs)
-    (λ c. page-refused _ _ _ _ (c .enum-told .given .1) (c .before .before .check .ensures)) (λ c κs. search needs) (λ c κs. search needs) (λ c. search needs)
-    (λ c. unfold said in page-written-at-once _ _ _ (every-byte (c .before .before .before .before .before .before .before .before .before .before .before .before .args .file .now) (λ i. omega (arith, c .before .before .before .before .before .before .before .before .before .before .before .shared-slice-known .given i))) _ (c .before .before .before .before .before .before .before .a .given .1) (c .before .before .before .before .before .before .before .before .before .check .ensures) (sym (c .before .before .before .before .before .surely-fits .ensures) ∙ c .before .before .before .before .if1 .taken) (c .before .before .render .ensures))
+    (λ c. page-refused _ _ _ _ (c .enum-told .given .1) (c .before .before .check-for .ensures)) (λ c κs. search needs) (λ c κs. search needs) (λ c. search needs)
+    (λ c. unfold said in page-written-at-once _ _ _ (every-byte (c .before .before .before .before .before .before .before .before .before .before .before .before .args .file .now) (λ i. omega (arith, c .before .before .before .before .before .before .before .before .before .before .before .shared-slice-known .given i))) _ (c .before .before .before .before .before .before .before .a .given .1) (c .before .before .before .before .before .before .before .before .before .check-for .ensures) (sym (c .before .before .before .before .before .surely-fits .ensures) ∙ c .before .before .before .before .if1 .taken) (c .before .before .render .ensures))
     (λ c. search needs) (λ c. search needs) (λ c κs. search needs) (λ c. search needs)
-    (λ c. unfold said refusal in page-too-short _ _ _ (every-byte (c .before .before .before .before .before .before .before .before .before .before .before .before .before .args .file .now) (λ i. omega (arith, c .before .before .before .before .before .before .before .before .before .before .before .before .shared-slice-known .given i))) _ (c .before .before .before .before .before .before .before .before .a .given .1) (c .before .before .before .before .before .before .before .before .before .before .check .ensures) (c .before .before .before .render2 .ensures) (c .if2 .taken))
+    (λ c. unfold said refusal in page-too-short _ _ _ (every-byte (c .before .before .before .before .before .before .before .before .before .before .before .before .before .args .file .now) (λ i. omega (arith, c .before .before .before .before .before .before .before .before .before .before .before .before .shared-slice-known .given i))) _ (c .before .before .before .before .before .before .before .before .a .given .1) (c .before .before .before .before .before .before .before .before .before .before .check-for .ensures) (c .before .before .before .render2 .ensures) (c .if2 .taken))
     (λ c κs. search needs) (λ c. search needs)
-    (λ c. unfold said in page-written _ _ _ (every-byte (c .before .before .before .before .before .before .before .before .before .before .before .before .before .before .before .before .before .args .file .now) (λ i. omega (arith, c .before .before .before .before .before .before .before .before .before .before .before .before .before .before .before .before .shared-slice-known .given i))) _ (c .before .before .before .before .before .before .before .before .before .before .before .before .a .given .1) (c .before .before .before .before .before .before .before .before .before .before .before .before .before .before .check .ensures) (c .before .before .before .before .before .before .before .render2 .ensures) (c .before .before .before .before .if2 .left) (c .before .before .render3 .ensures)))
+    (λ c. unfold said in page-written _ _ _ (every-byte (c .before .before .before .before .before .before .before .before .before .before .before .before .before .before .before .before .before .args .file .now) (λ i. omega (arith, c .before .before .before .before .before .before .before .before .before .before .before .before .before .before .before .before .shared-slice-known .given i))) _ (c .before .before .before .before .before .before .before .before .before .before .before .before .a .given .1) (c .before .before .before .before .before .before .before .before .before .before .before .before .before .before .check-for .ensures) (c .before .before .before .before .before .before .before .render2 .ensures) (c .before .before .before .before .if2 .left) (c .before .before .render3 .ensures)))
