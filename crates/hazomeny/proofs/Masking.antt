@@ -53,10 +53,10 @@ mask-alike k s page q n b h e = let W : Made s q n = made s page q n b e in rw (
   where
     go : (k : Page) → Fit k s → check-answer s ≡ accepted 0 → AlikeFiles (kept k) s (mask newlines s)
     go plain-page h p = file-and-mask plain-page s b p
-    go html-body h p = rw (keeping _ s h) (file-and-mask html-body s b p)
-    go html-document h p = rw (keeping _ s h) (file-and-mask html-document s b p)
-    go strict-body h p = rw (keeping _ s (h .0)) (file-and-mask strict-body s b p)
-    go strict-document h p = rw (keeping _ s (h .0)) (file-and-mask strict-document s b p)
+    go html-body h p = rw (keeping (38 ∷ 60 ∷ []) s h) (file-and-mask html-body s b p)
+    go html-document h p = rw (keeping (38 ∷ 60 ∷ []) s h) (file-and-mask html-document s b p)
+    go strict-body h p = rw (keeping (38 ∷ 60 ∷ 13 ∷ []) s (h .0)) (file-and-mask strict-body s b p)
+    go strict-document h p = rw (keeping (38 ∷ 60 ∷ 13 ∷ []) s (h .0)) (file-and-mask strict-document s b p)
 
 -- and neither has a NUL in a text, where strict pages are asked for
 fit-clear : (k : Page) (s : List ℕ) → Fit k s → Clear k s
