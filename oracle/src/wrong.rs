@@ -53,11 +53,11 @@ const ALL: [Row; 9] = [
     ("a page that fits just so is refused", Operation::Document, 0, fit_refused),
 ];
 
-/// Right but for the letter a in texts, so that masks are not answered alike.
+/// Right but for a letter in texts, so that masks are not answered alike.
 #[rustfmt::skip] // one row, one line
 const OF_MASKS: [Row; 4] = [
     ("all lines break where there is an a", Operation::Layout, 30, broken_lines),
-    ("a line moves where there is an a", Operation::Plain, 30, moved_line),
+    ("a line moves where there is an x", Operation::Plain, 30, moved_line),
     ("a body is longer where there is an a", Operation::Body, 20, longer_body),
     ("an a is shown as a b", Operation::Document, 20, changed_letter),
 ];
@@ -239,10 +239,10 @@ fn broken_lines(request: &Request) -> Outcome {
     answer(if wrong { &narrow } else { request })
 }
 
-/// The first newline and the byte behind it change places.
+/// The first newline and the byte behind it change places. The dull mask has an x for each byte.
 fn moved_line(request: &Request) -> Outcome {
     let mut said = answer(request);
-    let wrong = request.operation == Operation::Plain && request.file.contains(&b'a');
+    let wrong = request.operation == Operation::Plain && request.file.contains(&b'x');
     if let (Answer::Accepted(length), true) = (said.answer, wrong) {
         let page = &mut said.lent[..length];
         let line = page.iter().position(|byte| *byte == b'\n');

@@ -48,7 +48,7 @@ const ALL: [Row; 20] = [
     ("of a place only the low bytes count", 40, Says::Pair(place_wrapped)),
     ("the header is counted with the text", 40, Says::Pair(header_counted)),
     ("the second file's refusal comes before the first's", 20, Says::Pair(second_first)),
-    ("strict mode refuses an x in a text", 12, Says::Strict(mask_refused)),
+    ("strict mode refuses an x in a 7", 12, Says::Strict(mask_refused)),
 ];
 
 pub fn all() -> Vec<WrongMasker> {
@@ -307,7 +307,7 @@ fn mask_refused(asked: Asked) -> Outcome {
     let texts = pair::texts_of(&field::parse(asked.file)).into_iter();
     let mut of_x = texts.filter(|(place, length)| {
         let text = &asked.file[place + HEADER..][..*length];
-        text.contains(&b'x')
+        asked.file[*place] == IF_BLOCK_LAYOUT && text.contains(&b'x')
     });
     if let (Answer::Accepted(_), Some((place, _))) = (said.answer, of_x.next()) {
         said.answer = Answer::Refused { number: 14, place };

@@ -18,7 +18,7 @@ pub const ROWS: [Row; 14] = [
     ("the strict check is the loose one", Operation::CheckStrict, 8, |request| as_if(Operation::Check, request)),
     ("the loose check is the strict one", Operation::Check, 8, |request| as_if(Operation::CheckStrict, request)),
     ("a CR is written as &#10;", Operation::BodyStrict, 8, other_reference),
-    ("a CR before a newline is not escaped", Operation::BodyStrict, 10, before_newline),
+    ("a CR before a newline is not escaped", Operation::BodyStrict, 30, before_newline),
     ("a CR in a name is escaped", Operation::BodyStrict, 12, in_name),
     ("a CR in a 7 is not escaped", Operation::BodyStrict, 20, only_in_17s),
     ("the strict document is the loose one", Operation::DocumentStrict, 8, |request| as_if(Operation::Document, request)),
