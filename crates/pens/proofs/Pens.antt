@@ -72,11 +72,15 @@ same-tags O.the-variants.AppendToLine v n = absurd (n refl)
 same-tags O.the-variants.StartNewLine v n = refl
 same-tags (O.the-variants.BreakIfWithinLine b) v n = refl
 
+pub strict-tags : (op : O.LineOp) (v : List ℕ) {page page′ : List ℕ} {at r : ℕ} → (op ≡ O.the-variants.AppendToLine → ⊥)
+    → Written page at (html (own op v)) page′ r → Written page at (shown F.the-variants.Strict (own op v)) page′ r
+strict-tags op v m w = rw (← same-tags op v m) w
+
 pub html-tags : (f : F.Form) (op : O.LineOp) (v : List ℕ) {page page′ : List ℕ} {at r : ℕ} → (f ≡ F.the-variants.Plain → ⊥) → (op ≡ O.the-variants.AppendToLine → ⊥)
     → Written page at (html (own op v)) page′ r → Written page at (shown f (own op v)) page′ r
 html-tags F.the-variants.Plain op v n m w = absurd (n refl)
 html-tags F.the-variants.Html op v n m w = w
-html-tags F.the-variants.Strict op v n m w = rw (← same-tags op v m) w
+html-tags F.the-variants.Strict op v n m w = strict-tags op v m w
 
 -- ---- one operation
 

@@ -122,14 +122,46 @@ fn put_part(page: &mut [u8], at: usize, form: Form, text: &[u8]) -> usize
     }
 }
 
+// What an operation itself shows on a plain page: a part's bytes.
+fn put_plain(page: &mut [u8], at: usize, op: LineOp, text: &[u8]) -> usize
+    ensures { λ r. ⌜ Written (now (page .entry)) at (shown Form.Plain (own op (now (text .entry)))) (now (page .exit)) r ⌝ }
+{
+    let LineOp::AppendToLine = op else {
+        return at;
+    };
+    put_bytes(page, at, text)
+}
+
+// In HTML: a part escaped, or the tags of a mark.
+fn put_loose(page: &mut [u8], at: usize, op: LineOp, text: &[u8]) -> usize
+    ensures { λ r. ⌜ Written (now (page .entry)) at (shown Form.Html (own op (now (text .entry)))) (now (page .exit)) r ⌝ }
+{
+    let LineOp::AppendToLine = op else {
+        return put_html(page, at, op, text);
+    };
+    put_escaped(page, at, text)
+}
+
+// The same in strict mode. A function with one call is put into its caller, however long it is: called from here too, `put_html` and `put_strict`
+// stay out of `put_mark` and `put_part`, which are short and run for every mark and part.
+fn put_strictly(page: &mut [u8], at: usize, op: LineOp, text: &[u8]) -> usize
+    ensures { λ r. ⌜ Written (now (page .entry)) at (shown Form.Strict (own op (now (text .entry)))) (now (page .exit)) r ⌝ }
+{
+    let LineOp::AppendToLine = op else {
+        return put_html(page, at, op, text);
+    };
+    put_strict(page, at, text)
+}
+
 // What an operation itself shows.
 fn put_own(page: &mut [u8], at: usize, form: Form, op: LineOp, text: &[u8]) -> usize
     ensures { λ r. ⌜ Written (now (page .entry)) at (shown form (own op (now (text .entry)))) (now (page .exit)) r ⌝ }
 {
-    let LineOp::AppendToLine = op else {
-        return put_mark(page, at, form, op, text);
-    };
-    put_part(page, at, form, text)
+    match form {
+        Form::Plain => put_plain(page, at, op, text),
+        Form::Html => put_loose(page, at, op, text),
+        Form::Strict => put_strictly(page, at, op, text),
+    }
 }
 
 // One operation; the bytes it is about stand beside it.

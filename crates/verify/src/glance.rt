@@ -144,14 +144,11 @@ fn is_ascii(s: &[u8], from: usize, to: usize) -> bool
     all_bits(&s[from..to]) < 128
 }
 
-// A text that begins with a 16 of at most 255 bytes. In strict mode nothing is said.
-pub fn is_styled(s: &[u8], from: usize, end: usize, strict: bool) -> bool
+// A text that begins with a 16 of at most 255 bytes.
+fn is_plainly_styled(s: &[u8], from: usize, end: usize) -> bool
     requires { ⌜ (from < end) × (end ≤ length (now s)) × (getD (now s) from 0 ≡ 16) ⌝ }
-    ensures { λ r. ⌜ Says r ((d place : ℕ) → Between (now (s .entry)) place from end → RestSaid strict in-text [] d 0 place from (slice from end (now (s .entry))) (accepted tt)) ⌝ }
+    ensures { λ r. ⌜ Says r ((d place : ℕ) → Between (now (s .entry)) place from end → RestSaid false in-text [] d 0 place from (slice from end (now (s .entry))) (accepted tt)) ⌝ }
 {
-    if strict {
-        return false;
-    }
     if end - from < 6 {
         return false;
     }
@@ -169,6 +166,18 @@ pub fn is_styled(s: &[u8], from: usize, end: usize, strict: bool) -> bool
         }
     }
     false
+}
+
+// The same; in strict mode nothing is said. The mode is asked here: one more test before the last look would make that a call, since the compiler takes
+// what stands behind many tests for rare.
+pub fn is_styled(s: &[u8], from: usize, end: usize, strict: bool) -> bool
+    requires { ⌜ (from < end) × (end ≤ length (now s)) × (getD (now s) from 0 ≡ 16) ⌝ }
+    ensures { λ r. ⌜ Says r ((d place : ℕ) → Between (now (s .entry)) place from end → RestSaid strict in-text [] d 0 place from (slice from end (now (s .entry))) (accepted tt)) ⌝ }
+{
+    if strict {
+        return false;
+    }
+    is_plainly_styled(s, from, end)
 }
 
 // A 7, or a text of one 17, of few bytes in ASCII. The node of the tag stands from `at` to `to`. In strict mode nothing is said.
