@@ -12,7 +12,7 @@ use Rattle.layout.specs.Stretches.{Path}
 use Rattle.layout.proofs.NodeLaws.{other-tag}
 use Rattle.layout.proofs.AheadLaws.{not-either}
 use Rattle.layout.proofs.LoopLaws.{Along, along-starts, along-turn, along-ends, path-rises, later-same}
-use Rattle.laying.specs.Painted.{painted}
+use Rattle.rules.specs.Marks.{painted}
 use Rattle.laying.specs.Told.{bad, Fine, Wrong, Rest, Passed, Checked, Open}
 use Rattle.laying.specs.Beside.{Clear, LaidAt}
 use Rattle.laying.specs.Walks.{NodeWalked, StretchLaid, StretchWalked}

@@ -7,7 +7,8 @@ use Rattle.shapes.specs.Shapes.{shape}
 use Rattle.fields.specs.Walk.{part, Is}
 use Rattle.layout.specs.LaidIn.{Laid, kept, decided}
 use Rattle.layout.proofs.ChoiceLaws.{kept-indented, decided-over, decided-within}
-use Rattle.laying.specs.Painted.{painted, MarkedAt}
+use Rattle.rules.specs.Marks.{painted}
+use Rattle.laying.specs.Painted.{MarkedAt}
 use Rattle.laying.specs.Told.{Fine}
 use Rattle.laying.specs.Beside.{LaidAt}
 use Rattle.laying.specs.Walks.{Indented, Decided}

@@ -8,9 +8,9 @@ use Rattle.layout.proofs.LoopLaws.{after-same, later-same}
 use Rattle.rules.specs.Layout.{Shape}
 use Rattle.layout.specs.LaidIn.{Ending, ahead-in}
 use Rattle.layout.specs.Stretches.{Closes, Quiet}
-use Rattle.laying.specs.Painted.{painted}
+use Rattle.rules.specs.Marks.{painted}
 use Rattle.laying.specs.Beside.{Clear}
-use Rattle.laying.proofs.PaintedLaws.{painted-long, painted-none}
+use Rattle.rules.proofs.Marked.{painted-long, painted-none}
 
 module _ {ws s : List ℕ} {a : ℕ} (C : Clear ws s a) where
   pub clear-later : {b : ℕ} → a ≤ b → Clear ws s b

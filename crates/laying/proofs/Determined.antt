@@ -1,10 +1,11 @@
 -- What the contracts of this crate leave open: nothing of whether a part is accepted, nor of what the marks of an accepted file show.
-use Rattle.rules.proofs.Basics.{_≡_, refl, sym, ap, _∙_, List, Bool, true, false, ℕ, eqb, eqb-true, eqb-false}
+use Rattle.rules.proofs.Basics.{_≡_, refl, sym, ap, _∙_, List, Bool, true, false, ℕ, eqb, eqb-true, eqb-false, length}
 use Rattle.rules.specs.Walk.{Holder}
 use Rattle.rules.specs.Result.{Result, accepted, refused}
 use Rattle.rules.proofs.Chains.{no-path}
 use Rattle.verify.specs.Walked.{RestSaid, ValueSaid}
-use Rattle.laying.specs.Painted.{painted}
+use Rattle.rules.specs.Answers.{changed}
+use Rattle.rules.specs.Marks.{painted}
 use Rattle.laying.specs.Told.{bad, Wrong, Tells}
 use Rattle.laying.specs.Outcomes.{FirstWalk}
 
@@ -28,3 +29,13 @@ leaf-one x y p q = p 0 .is ∙ sym (q 0 .is)
 
 pub first-walk-unique : {w : ℕ} {s : List ℕ} {a b : ℕ} {ws vs : List ℕ} → FirstWalk w s a ws → FirstWalk w s b vs → (a ≡ bad → ⊥) → (b ≡ bad → ⊥) → painted ws s ≡ painted vs s
 first-walk-unique A B n m = ap (λ x. x .1) (A .laid n _ refl ∙ sym (B .laid m _ refl))
+
+pub first-walk-whether : {w : ℕ} {s : List ℕ} {a b : ℕ} {ws vs : List ℕ} → FirstWalk w s a ws → FirstWalk w s b vs → a ≡ bad → b ≡ bad
+first-walk-whether {s = s} {b = b} {vs = vs} A B e = go (eqb b bad) refl
+  where
+    go : (q : Bool) → eqb b bad ≡ q → b ≡ bad
+    go true q = eqb-true b bad q
+    go false q =
+        let R = A .refuses e in
+        let z : accepted (length (changed 0 s (painted vs s))) ≡ refused (R .number) (R .place) = ap (λ x. x .0) (B .laid (eqb-false b bad q) _ refl ∙ sym (A .wrong e _ refl)) ∙ R .is in
+        no-path (cc)

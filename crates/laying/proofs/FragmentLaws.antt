@@ -20,11 +20,11 @@ use Rattle.verify.proofs.RestLaws.{At, begins, rising, in-the-part}
 use Rattle.verify.proofs.LoopLaws.{Come, come-first, come-on, come-short, come-wrong, come-stops, come-last, piece-next, nothing-asked, Any}
 use Rattle.layout.specs.LaidIn.{Laid, with-fragment, flex-in, fragment-in}
 use Rattle.layout.proofs.LoopLaws.{fragment-more, later-same}
-use Rattle.laying.specs.Painted.{painted}
+use Rattle.rules.specs.Marks.{painted}
 use Rattle.laying.specs.Told.{bad, Fine, Wrong, Tells}
 use Rattle.laying.specs.Beside.{Clear, LaidTo, LaidAt}
 use Rattle.laying.specs.Walks.{fragments-from, FragmentsWalked, FragmentWalked}
-use Rattle.laying.proofs.PaintedLaws.{painted-long}
+use Rattle.rules.proofs.Marked.{painted-long}
 use Rattle.laying.proofs.Places.{laid-part, laid-within, put-back, nodes-behind}
 use Rattle.laying.proofs.Clears.{clear-on, clear-ends, painted-up-to, part-long}
 use Rattle.laying.proofs.StretchLaws.{whole-ends}

@@ -10,11 +10,11 @@ use Rattle.verify.specs.Walked.{Between, ValueSaid}
 use Rattle.verify.proofs.ValueLaws.{block-value, deep-value}
 use Rattle.layout.specs.LaidIn.{Laid, fragments-in, flex-in, fragment-in}
 use Rattle.layout.proofs.NodeLaws.{tag-three, tag-four}
-use Rattle.laying.specs.Painted.{painted}
+use Rattle.rules.specs.Marks.{painted}
 use Rattle.laying.specs.Told.{bad, Fine, Wrong, Tells}
 use Rattle.laying.specs.Beside.{Clear, LaidTo, LaidAt}
 use Rattle.laying.specs.Walks.{fragments-from, Decided, NodeWalked, FragmentsWalked}
-use Rattle.laying.proofs.PaintedLaws.{painted-long}
+use Rattle.rules.proofs.Marked.{painted-long}
 use Rattle.laying.proofs.Places.{laid-part, fragments-behind}
 use Rattle.laying.proofs.Clears.{clear-tag}
 

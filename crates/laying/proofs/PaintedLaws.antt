@@ -1,53 +1,13 @@
--- Marks beside a file: what a place shows, a mark more, and none.
-use Rattle.rules.proofs.Basics.{_≡_, refl, sym, ap, _∙_, List, [], _∷_, Bool, true, false, ℕ, zero, suc, _+_, _-_, _*_, _/_, _%_, _^_, max, _<_, _≤_, arith, decLt, eqb, eq-eqb, ne-eqb, eqb-true, eqb-false, length, getD, set, length-set, replicate, getD-replicate, drop, length-drop}
+-- Marks beside a file: one more.
+use Rattle.rules.proofs.Basics.{_≡_, refl, sym, ap, _∙_, List, Bool, true, false, ℕ, suc, _+_, _-_, _*_, _/_, _%_, _^_, max, _<_, arith, decLt, eqb, eq-eqb, ne-eqb, eqb-true, eqb-false, length, getD, set, length-set}
 use native.Mathlib.Nat.{div-eq-of-lt, mod-eq-of-lt}
-use lib.Pow.{pow-lt, pow-add, pow-pos, shl-shr}
+use lib.Pow.{pow-lt, pow-add, shl-shr}
 use lib.Bits.{bitOr, or-shr, or-step, shifted-even}
-use lib.Seq.{getD-set-same, getD-set-other, ext-getD, getD-drop}
+use lib.Seq.{getD-set-same, getD-set-other, ext-getD}
 use Rattle.rules.specs.Bytes.{if_then_else_}
-use Rattle.laying.specs.Painted.{marked, painted-from, painted, MarkedAt}
-
--- ---- what a place shows
-
-painted-from-long : (ws : List ℕ) (at : ℕ) (s : List ℕ) → length (painted-from ws at s) ≡ length s
-unfolding painted-from
-painted-from-long ws at [] = refl
-painted-from-long ws at (x ∷ s) = ap suc (painted-from-long ws (suc at) s)
-
-pub painted-long : (ws s : List ℕ) → length (painted ws s) ≡ length s
-unfolding painted
-painted-long ws s = painted-from-long ws 0 s
-
-painted-from-at : (ws : List ℕ) (at : ℕ) (s : List ℕ) (i : ℕ) → i < length s → getD (painted-from ws at s) i 0 ≡ (if marked ws (at + i) then 3 else getD s i 0)
-unfolding painted-from
-painted-from-at ws at [] i h = absurd (omega arith)
-painted-from-at ws at (x ∷ s) zero h = let e : at + 0 ≡ at = omega arith in ap (λ (k : ℕ). if marked ws k then 3 else x) (sym e)
-painted-from-at ws at (x ∷ s) (suc i) h =
-    let e : suc at + i ≡ at + suc i = omega arith in
-    painted-from-at ws (suc at) s i (omega arith) ∙ ap (λ (k : ℕ). if marked ws k then 3 else getD s i 0) e
-
-pub painted-at : (ws s : List ℕ) (i : ℕ) → i < length s → getD (painted ws s) i 0 ≡ (if marked ws i then 3 else getD s i 0)
-unfolding painted
-painted-at ws s i h = let e : 0 + i ≡ i = omega arith in painted-from-at ws 0 s i h ∙ ap (λ (k : ℕ). if marked ws k then 3 else getD s i 0) e
-
--- ---- no mark
-
-pub painted-clear : (ws s : List ℕ) → ((i : ℕ) → i < length s → getD ws (i / 64) 0 ≡ 0) → painted ws s ≡ s
-unfolding marked
-painted-clear ws s z = ext-getD 0 _ _ (painted-long ws s) (λ i h. let l : i < length s = omega (arith, painted-long ws s) in painted-at ws s i l ∙ ap (λ (b : Bool). if b then 3 else getD s i 0) (none i l))
-  where
-    none : (i : ℕ) → i < length s → eqb (getD ws (i / 64) 0 / 2 ^ (i % 64) % 2) 1 ≡ false
-    none i h = ap (λ (w : ℕ). eqb (w / 2 ^ (i % 64) % 2) 1) (z i h) ∙ ap (λ (w : ℕ). eqb (w % 2) 1) (div-eq-of-lt (pow-pos (i % 64)))
-
-pub painted-none : (n : ℕ) (s : List ℕ) → painted (replicate n 0) s ≡ s
-painted-none n s = painted-clear (replicate n 0) s (λ i h. all-zero n (i / 64))
-  where
-    all-zero : (n i : ℕ) → _≡_ {A = ℕ} (getD (replicate n 0) i 0) 0
-    all-zero zero i = refl
-    all-zero (suc n) zero = refl
-    all-zero (suc n) (suc i) = all-zero n i
-
--- ---- one mark more
+use Rattle.rules.specs.Marks.{marked, painted}
+use Rattle.rules.proofs.Marked.{painted-long, painted-at}
+use Rattle.laying.specs.Painted.{MarkedAt}
 
 -- the digit of a power of two
 digit : (j k : ℕ) → 2 ^ k / 2 ^ j % 2 ≡ (if eqb j k then 1 else 0)

@@ -6,8 +6,9 @@ use lib.Bits.{bitOr, or-add-and, and-le-l, and-le-r}
 use lib.Seq.{take-suc-set, drop-set-lt, getD-drop}
 use Rattle.rules.specs.Bytes.{if_then_else_}
 use Rattle.rules.specs.Answers.{changed}
-use Rattle.laying.specs.Painted.{bit-at, marked, painted, Shown, ShownAll, WordAt}
-use Rattle.laying.proofs.PaintedLaws.{painted-long, painted-at, painted-clear}
+use Rattle.rules.specs.Marks.{bit-at, marked, painted}
+use Rattle.laying.specs.Painted.{Shown, ShownAll, WordAt}
+use Rattle.rules.proofs.Marked.{painted-long, painted-at, painted-clear}
 
 pub shown-starts : (ws s : List ℕ) → Shown ws s 0 s 0
 shown-starts ws s = record { long = refl; before = refl; behind = refl; count = zero-add _ }

@@ -10,11 +10,11 @@ use Rattle.verify.specs.Walked.{Between, RestSaid}
 use Rattle.layout.specs.LaidIn.{Laid, behind-in, flex-in, fragment-in}
 use Rattle.layout.specs.Stretches.{Path, Stretched}
 use Rattle.layout.proofs.LoopLaws.{Begun, begun-starts, stretch-turn, begun-ends, path-rises, later-same}
-use Rattle.laying.specs.Painted.{painted}
+use Rattle.rules.specs.Marks.{painted}
 use Rattle.laying.specs.Told.{bad, Fine, Wrong, Tells, Rest, Passed, Seen, StretchTold}
 use Rattle.laying.specs.Beside.{Clear, LaidTo}
 use Rattle.laying.specs.Walks.{StretchWalked, FragmentWalked}
-use Rattle.laying.proofs.PaintedLaws.{painted-long}
+use Rattle.rules.proofs.Marked.{painted-long}
 use Rattle.laying.proofs.Places.{stays-behind}
 use Rattle.laying.proofs.Clears.{clear-on, clear-later, clear-in, painted-up-to, stretched-same}
 use Rattle.laying.proofs.Passing.{none-left, passed-none, passed-on, passed-wrong}

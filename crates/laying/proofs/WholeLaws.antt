@@ -19,12 +19,13 @@ use Rattle.rigid.proofs.OfLeaves.{rigid-leaf}
 use Rattle.fields.specs.Walk.{Is}
 use Rattle.layout.specs.LaidIn.{Laid, fragment-in}
 use Rattle.layout.proofs.OfTrees.{laid-tree}
-use Rattle.laying.specs.Painted.{painted, ShownAll}
+use Rattle.rules.specs.Marks.{painted}
+use Rattle.laying.specs.Painted.{ShownAll}
 use Rattle.laying.specs.Told.{bad, Wrong}
 use Rattle.laying.specs.Walks.{FragmentWalked}
 use Rattle.laying.specs.Beside.{Clear}
-use Rattle.laying.specs.Outcomes.{FirstWalk}
-use Rattle.laying.proofs.PaintedLaws.{painted-long}
+use Rattle.laying.specs.Outcomes.{Refuses, FirstWalk}
+use Rattle.rules.proofs.Marked.{painted-long}
 
 -- past the two tests the walk decides
 module _ (w : ℕ) (s : List ℕ) (h : length s ≤ most-bytes) (g : w ≤ most-columns) where
@@ -33,17 +34,19 @@ module _ (w : ℕ) (s : List ℕ) (h : length s ≤ most-bytes) (g : w ≤ most-
   checked-outcome = rw (le-leb (length s) most-bytes h, le-leb w most-columns g) refl
 
   -- the walk finds a fault: the check refuses the file
+  wrong-refused : Wrong (RestSaid false in-fragment [] 0 0 0 0 (slice 0 (length s) s)) → Refuses s
+  unfolding counted
+  wrong-refused W = record { number = W .faulty .number; place = W .faulty .place; is = sym (sym (ap counted (W .faulty .is)) ∙ walk-answers false s h (W .all)) }
+
   wrong-outcome : Wrong (RestSaid false in-fragment [] 0 0 0 0 (slice 0 (length s) s)) → (x : Result ℕ) → x ≡ check-answer s → (x, s) ≡ layout-outcome w s
-  unfolding left-laid _>>=_ check-answer-by counted
+  unfolding left-laid _>>=_ check-answer-by
   wrong-outcome W x e = go (tree s) refl
     where
-      refuses : refused (W .faulty .number) (W .faulty .place) ≡ check-answer s
-      refuses = sym (ap counted (W .faulty .is)) ∙ walk-answers false s h (W .all)
-
       go : (y : Result (Frag ℕ)) → tree s ≡ y → (x, s) ≡ layout-outcome w s
       go (refused n p) f = ap (λ x. (x, s)) (e ∙ ap (λ x. x >>= (λ t. accepted 0)) f) ∙ sym (checked-outcome ∙ ap (λ x. left-laid s (x >>= (λ t. accepted (layout newline w t)))) f)
       go (accepted t) f =
-          let q : _≡_ {A = Result ℕ} (refused (W .faulty .number) (W .faulty .place)) (accepted 0) = refuses ∙ ap (λ x. x >>= (λ t. accepted 0)) f in
+          let R : Refuses s = wrong-refused W in
+          let q : _≡_ {A = Result ℕ} (refused (R .number) (R .place)) (accepted 0) = sym (R .is) ∙ ap (λ x. x >>= (λ t. accepted 0)) f in
           no-path (cc)
 
   -- it finds none: the file is laid out as its tree is
@@ -61,6 +64,7 @@ module _ (w : ℕ) (s : List ℕ) (h : length s ≤ most-bytes) (g : w ≤ most-
   pub first-walk : Bytes s → {ws : List ℕ} → Clear ws s 0 → {m : ℕ} → m ≡ 10 * w → {r : ℕ} {ws′ : List ℕ} → FragmentWalked 0 m m 0 s (length s) ws r ws′ → FirstWalk w s r ws′
   first-walk b {ws} C {m} k {r} {ws′} F = record {
     words = F .words ∙ C .words;
+    refuses = λ e. wrong-refused (F .check .wrong e);
     wrong = λ e. wrong-outcome (F .check .wrong e);
     laid = λ o s′ q. laid-outcome b (F .check .sound o) k (same s′ q (F .laid o .is));
   }

@@ -6,7 +6,7 @@ use lib.ListN.{length, take, drop}
 use Rattle.rules.specs.Layout.{Shape}
 use Rattle.fields.specs.Walk.{part, Is}
 use Rattle.layout.specs.LaidIn.{Laid}
-use Rattle.laying.specs.Painted.{painted}
+use Rattle.rules.specs.Marks.{painted}
 
 -- the marks ws beside the file s: none shows from `from` on
 pub record Clear (ws s : List ℕ) (from : ℕ) : Type 0 where

@@ -12,7 +12,7 @@ use Rattle.fields.specs.Walk.{over}
 use Rattle.verify.specs.Walked.{RestSaid, ValueSaid}
 use Rattle.layout.specs.LaidIn.{Laid, with-fragment, kept, decided, flex-in, fragment-in}
 use Rattle.layout.specs.Stretches.{Onwards}
-use Rattle.laying.specs.Painted.{painted}
+use Rattle.rules.specs.Marks.{painted}
 use Rattle.laying.specs.Told.{bad, Fine, Wrong, Tells, Rest, Passed}
 use Rattle.laying.specs.Beside.{LaidTo, LaidAt}
 

@@ -3,7 +3,8 @@ ghost use mathlib.Core.Path.{_≡_};
 ghost use mathlib.Core.List.{List};
 ghost use Prim.Native.Nat.{ℕ, _+_, _<_, _≤_};
 ghost use lib.ListN.{length, getD};
-ghost use Rattle.laying.specs.Painted.{bit-at, MarkedAt, Shown, ShownAll, WordAt};
+ghost use Rattle.rules.specs.Marks.{bit-at};
+ghost use Rattle.laying.specs.Painted.{MarkedAt, Shown, ShownAll, WordAt};
 
 // A mark at `at`.
 pub fn mark(bits: &mut [u64; 938], at: usize)

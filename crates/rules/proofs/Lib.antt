@@ -29,6 +29,7 @@ pub mod Places
 pub mod Masked
 pub mod Filled
 pub mod LeftLaid
+pub mod Marked
 pub mod StrictLaid
 pub mod Demand3
 pub mod Refused

@@ -18,6 +18,8 @@ pub mod Values
 pub mod Sizes
 pub mod Html
 pub mod Answers
+pub mod Marks
+pub mod Prints
 pub mod Earlier
 pub mod Mask
 pub mod Alike
