@@ -13,7 +13,7 @@ use Rattle.styles.specs.StylesIn.{styles-in}
 use Rattle.styles.proofs.Sound.{good-styles}
 use Rattle.rules.proofs.SoundFields.{length-field}
 use Rattle.fields.proofs.OfFields.{part-here}
-use Rattle.pages.specs.OpsIn.{styled-in, run-fields-in, run-in, run-field-in, named-in, anchor-fields-in, anchor-in, if-block-in, leaf-in, node-by, node-in}
+use Rattle.pages.specs.OpsIn.{styled-in, run-fields-in, run-in, run-field-in, runs-in, named-in, anchor-fields-in, anchor-in, if-block-in, leaf-in, node-by, node-in}
 use Rattle.pages.proofs.EachOf.{Gives, gives-nil, gives-more, gives-from, has-header}
 
 -- ---- a text
@@ -48,14 +48,14 @@ run-field : (v : List ℕ) → run-field-in (field 1 v) ≡ run-in v
 unfolding run-field-in field
 run-field v = rw (has-header 1 v)
 
-runs-good : (rs : List (Run ℕ)) (d before : ℕ) → Good in-anchor d before (runs-fields rs) → Gives run-field-in (encode-fields (runs-fields rs)) (runs-ops newline rs)
+runs-good : (rs : List (Run ℕ)) (d before : ℕ) → Good in-anchor d before (runs-fields rs) → (at : ℕ) → Gives (λ at. run-field-in) at (encode-fields (runs-fields rs)) (runs-ops newline rs)
 unfolding runs-fields encode-fields runs-ops holds
-runs-good [] d before G = gives-nil run-field-in
-runs-good (r ∷ rs) d before G =
+runs-good [] d before G at = gives-nil (λ at. run-field-in)
+runs-good (r ∷ rs) d before G at =
     let v : List ℕ = encode-fields (run-fields (r .style) (r .chars)) in
     let one : run-field-in (field 1 v) ≡ run-ops newline r =
     run-field v ∙ run-good _ r (inner-good 1 d (run-fields (r .style) (r .chars)) in-text refl (G .1)) in
-    gives-more run-field-in 1 v (encode-fields (runs-fields rs)) (G .0 .fits) one (runs-good rs d 1 (G .2))
+    gives-more (λ at. run-field-in) at 1 v (encode-fields (runs-fields rs)) (G .0 .fits) one (runs-good rs d 1 (G .2) _)
 
 definition-tag : (definition : Bool) → eqb (anchor-tag definition) 18 ≡ definition
 unfolding anchor-tag
@@ -73,7 +73,7 @@ name-first definition a r l =
 
 anchor-good : (directly : Bool) (d : ℕ) (definition : Bool) (a : List ℕ) (rs : List (Run ℕ)) → Good in-anchor d 0 (bytes (anchor-tag definition) a (runs-fields rs))
     → anchor-in (field (anchor-tag definition) a ++ encode-fields (runs-fields rs)) ≡ leaf-ops newline directly (anchor definition a rs)
-unfolding named-in leaf-ops runs-fields encode-fields
+unfolding named-in runs-in leaf-ops runs-fields encode-fields
 anchor-good directly d definition a [] G =
     let h : List ℕ = field (anchor-tag definition) a in
     name-first definition a [] (G .0 .fits) ∙ rw (le-leb (length (h ++ [])) (length h) (omega (arith, length-append h [])))
@@ -82,32 +82,36 @@ anchor-good directly d definition a (r ∷ rs) G =
     let v : List ℕ = encode-fields (run-fields (r .style) (r .chars)) in
     let s : List ℕ = encode-fields (runs-fields rs) in
     let l : length h < length (h ++ (field 1 v ++ s)) = omega (arith, length-append h (field 1 v ++ s), length-append (field 1 v) s, length-field 1 v) in
-    let R = runs-good (r ∷ rs) d (anchor-tag definition) (G .3) in
+    let R = runs-good (r ∷ rs) d (anchor-tag definition) (G .3) (0 + length h) in
     name-first definition a (field 1 v ++ s) (G .0 .fits)
-    ∙ rw (lt-leb (length (h ++ (field 1 v ++ s))) (length h) l, gives-from run-field-in (length h) h (field 1 v ++ s) refl R)
+    ∙ rw (lt-leb (length (h ++ (field 1 v ++ s))) (length h) l, gives-from (λ at. run-field-in) 0 (length h) h (field 1 v ++ s) refl R)
 
 -- ---- a leaf
 
--- a node that is no block
-node-leaf : (left : ℕ) (directly : Bool) (t : ℕ) (v : List ℕ) → eqb t 3 ≡ false → eqb t 4 ≡ false → node-in left directly (field t v) ≡ leaf-in directly t v
-unfolding node-in node-by field
-node-leaf zero directly t v p q = rw (has-header t v, p, q)
-node-leaf (suc left) directly t v p q = rw (has-header t v, p, q)
+module _ (choice : ℕ → Bool) (left : ℕ) (directly : Bool) (at : ℕ) where
+  -- a node that is no block, whatever is chosen
+  node-leaf : (t : ℕ) (v : List ℕ) → eqb t 3 ≡ false → eqb t 4 ≡ false → node-in choice left directly at (field t v) ≡ leaf-in directly t v
+  unfolding node-in node-by field
+  node-leaf t v p q = go left
+    where
+      go : (left : ℕ) → node-in choice left directly at (field t v) ≡ leaf-in directly t v
+      go zero = rw (has-header t v, p, q)
+      go (suc left) = rw (has-header t v, p, q)
 
-if-block-says : (directly : Bool) (v : List ℕ) → if-block-in directly v ≡ leaf-ops newline directly (if-block v)
-unfolding if-block-in leaf-ops
-if-block-says true v = refl
-if-block-says false v = refl
+  if-block-says : (v : List ℕ) → if-block-in directly v ≡ leaf-ops newline directly (if-block v)
+  unfolding if-block-in leaf-ops
+  if-block-says v = go directly
+    where
+      go : (directly : Bool) → if-block-in directly v ≡ leaf-ops newline directly (if-block v)
+      go true = refl
+      go false = refl
 
--- THE LINE OPERATIONS BY THE BYTES OF A GOOD LEAF ARE THE RULES' ONES
-pub leaf-says : (n : Leaf ℕ) (d before : ℕ) (x : Fields ℕ) → Good in-fragment d before (leaf-fields n x) → (left : ℕ) (directly : Bool)
-    → node-in left directly (leaf-bytes n) ≡ leaf-ops newline directly n
-unfolding leaf-fields leaf-bytes encode-fields leaf-in leaf-ops holds
-leaf-says (text r) d before x G left directly =
-    node-leaf left directly 1 _ refl refl ∙ run-good _ r (inner-good 1 d (run-fields (r .style) (r .chars)) in-text refl (G .1))
-leaf-says (anchor definition a rs) d before x G left directly =
-    node-leaf left directly 2 _ refl refl
-    ∙ anchor-good directly _ definition a rs (inner-good 2 d (bytes (anchor-tag definition) a (runs-fields rs)) in-anchor refl (G .1))
-leaf-says space d before x G left directly = node-leaf left directly 5 [] refl refl
-leaf-says force d before x G left directly = node-leaf left directly 6 [] refl refl
-leaf-says (if-block v) d before x G left directly = node-leaf left directly 7 v refl refl ∙ if-block-says directly v
+  -- THE LINE OPERATIONS BY THE BYTES OF A GOOD LEAF ARE THE RULES' ONES
+  pub leaf-says : (n : Leaf ℕ) (d before : ℕ) (x : Fields ℕ) → Good in-fragment d before (leaf-fields n x) → node-in choice left directly at (leaf-bytes n) ≡ leaf-ops newline directly n
+  unfolding leaf-fields leaf-bytes encode-fields leaf-in leaf-ops holds
+  leaf-says (text r) d before x G = node-leaf 1 _ refl refl ∙ run-good _ r (inner-good 1 d (run-fields (r .style) (r .chars)) in-text refl (G .1))
+  leaf-says (anchor definition a rs) d before x G =
+      node-leaf 2 _ refl refl ∙ anchor-good directly _ definition a rs (inner-good 2 d (bytes (anchor-tag definition) a (runs-fields rs)) in-anchor refl (G .1))
+  leaf-says space d before x G = node-leaf 5 [] refl refl
+  leaf-says force d before x G = node-leaf 6 [] refl refl
+  leaf-says (if-block v) d before x G = node-leaf 7 v refl refl ∙ if-block-says v

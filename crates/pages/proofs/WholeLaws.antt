@@ -1,6 +1,6 @@
 -- The page of a whole file: what is refused, how long it is, and what is written.
 use Rattle.rules.proofs.Basics.{_≡_, refl, sym, ap, subst, _∙_, List, [], _++_, append-nil, append-assoc, Bool, true, false, _&&_, ℕ, _+_, _*_, _/_, _<_, _≤_, arith, le-trans, leb, length, leb-true, le-leb, lt-leb}
-use Rattle.rules.specs.Limits.{plain-per-byte, html-per-byte, html-frame}
+use Rattle.rules.specs.Limits.{most-bytes, plain-per-byte, html-per-byte, html-frame}
 use Rattle.rules.specs.Bytes.{newline}
 use Rattle.rules.specs.declared.Refusal.{Refusal}
 use Rattle.rules.specs.declared.Answer.{Answer}
@@ -9,7 +9,7 @@ use Rattle.rules.specs.Result.{Result, refused, accepted, _>>=_, said}
 use Rattle.rules.specs.Tree.{Frag}
 use Rattle.rules.specs.Encode.{encode}
 use Rattle.rules.specs.Good.{Bytes, GoodTree}
-use Rattle.rules.specs.Lines.{start, Item, items}
+use Rattle.rules.specs.Lines.{start, Item, ops, items}
 use Rattle.rules.specs.Plain.{plain, fill}
 use Rattle.rules.specs.Html.{Escape, escape, strict-escape, makes, items-html, opening, closing, before-body, after-body, body, document}
 use Rattle.rules.specs.Alike.{tree-of}
@@ -17,7 +17,9 @@ use Rattle.rules.specs.SameWords.{most-of}
 use Rattle.rules.specs.Answers.{itself, check-answer, strict-check-answer, check-answer-by, written, left-page}
 use Rattle.rules.proofs.Chains.{no-path}
 use Rattle.rules.proofs.Demand3.{by-kind}
+use Rattle.rules.specs.Marks.{marked, painted}
 use Rattle.rules.proofs.Files.{Read, tree-read}
+use Rattle.rules.proofs.Marked.{painted-long, painted-none, ShownBy, shown-by-none}
 use Rattle.verify.proofs.Verdicts.{refused-by, accepted-by}
 use Rattle.writing.specs.Written.{last, Written}
 use Rattle.writing.proofs.Laws as writing
@@ -30,18 +32,18 @@ use Rattle.pages.specs.declared.frame.Kind as K
 use Rattle.pages.specs.declared.frame.Kind.{Kind}
 use Rattle.pens.specs.declared.pen.Pen.{Pen}
 use Rattle.pens.specs.declared.state.Form as F
-use Rattle.pages.proofs.OfTrees.{ops-tree}
+use Rattle.pages.proofs.OfTrees.{ops-shown}
 use Rattle.rules.proofs.Strict.{loose-tree}
 use Rattle.lengths.proofs.HtmlLengths.{page-most, page-short}
 use Rattle.rules.proofs.Fills.{fill-append, fill-makes}
 
 -- ---- the pen over a whole file
 
-pub whole-page : (k : Kind) (s : List ℕ) {w : Framing} {p p′ : Pen} {page page₁ page₂ page₃ : List ℕ} {r : ℕ} → w ≡ framing-of k → Written page 0 (head w) page₁ (p .at)
-    → form p ≡ form-of k → machine p ≡ start → Rendered (fragment-in 32 false 0 s) p page₁ p′ page₂ → Written page₂ (p′ .at) (foot w) page₃ r
-    → Written page 0 (page-in k s) page₃ r
+pub whole-page : (k : Kind) (ws s : List ℕ) {w : Framing} {p p′ : Pen} {page page₁ page₂ page₃ : List ℕ} {r : ℕ} → w ≡ framing-of k → Written page 0 (head w) page₁ (p .at)
+    → form p ≡ form-of k → machine p ≡ start → Rendered (fragment-in (marked ws) 32 false 0 0 s) p page₁ p′ page₂ → Written page₂ (p′ .at) (foot w) page₃ r
+    → Written page 0 (page-in k ws s) page₃ r
 unfolding page-in
-whole-page k s q h f e r g = rw (← q) (writing.then h (writing.then (rw (f, e) at (r .ran .written)) g))
+whole-page k ws s q h f e r g = rw (← q) (writing.then h (writing.then (rw (f, e) at (r .ran .written)) g))
 
 -- ---- the kinds
 
@@ -63,13 +65,13 @@ module _ (look : ℕ → Escape) (is : List (Item ℕ)) where
       framed : (a b c d e : List ℕ) → a ++ ((b ++ (c ++ d)) ++ e) ≡ (a ++ b) ++ (c ++ (d ++ e))
       framed a b c d e = rw (append-assoc b (c ++ d) e, append-assoc c d e, append-assoc a b (c ++ (d ++ e)))
 
-page-by-bytes : (k : Kind) (t : Frag ℕ) → GoodTree t → page-in k (encode t) ≡ page-of k t
+page-by-ops : (k : Kind) (ws s : List ℕ) (u : Frag ℕ) → fragment-in (marked ws) 32 false 0 0 s ≡ ops newline false u → page-in k ws s ≡ page-of k u
 unfolding page-in page-of form-of framing-of head foot shown plain body document items
-page-by-bytes K.the-variants.Plain t G = rw (ops-tree t G) (append-nil _)
-page-by-bytes K.the-variants.Body t G = rw (ops-tree t G) (sym (makes-items escape (items newline t) opening closing))
-page-by-bytes K.the-variants.Document t G = rw (ops-tree t G) (sym (framed-items escape (items newline t)))
-page-by-bytes K.the-variants.StrictBody t G = rw (ops-tree t G) (sym (makes-items strict-escape (items newline t) opening closing))
-page-by-bytes K.the-variants.StrictDocument t G = rw (ops-tree t G) (sym (framed-items strict-escape (items newline t)))
+page-by-ops K.the-variants.Plain ws s u e = rw e (append-nil _)
+page-by-ops K.the-variants.Body ws s u e = rw e (sym (makes-items escape (items newline u) opening closing))
+page-by-ops K.the-variants.Document ws s u e = rw e (sym (framed-items escape (items newline u)))
+page-by-ops K.the-variants.StrictBody ws s u e = rw e (sym (makes-items strict-escape (items newline u) opening closing))
+page-by-ops K.the-variants.StrictDocument ws s u e = rw e (sym (framed-items strict-escape (items newline u)))
 
 page-last : (k : Kind) (t : Frag ℕ) → GoodTree t → Bytes (encode t) → length (page-of k t) ≤ last
 unfolding page-of
@@ -128,51 +130,66 @@ strict-check K.the-variants.StrictDocument s e = refl
 
 -- ---- what each kind answers: by the text of a tree, and by the bytes of its file
 
-module _ (k : Kind) (s page : List ℕ) where
-  pub page-refused : (a : Answer) {r : Refusal} → a ≡ Refused r → said a ≡ check-answer-by (tree-of (page-kind k)) s → (said a, page) ≡ page-outcome k s page
+pub page-refused : (k : Kind) (s page : List ℕ) (a : Answer) {r : Refusal} → a ≡ Refused r → said a ≡ check-answer-by (tree-of (page-kind k)) s → (said a, page) ≡ page-outcome k s page
+unfolding left-page _>>=_
+page-refused k s page a q e =
+    let (n, p, no-tree, says) = refused-by (tree-of (page-kind k)) s a e q in
+    ap (λ r. (r, page)) says ∙ sym (ap (λ x. left-page (x >>= (λ t. accepted (page-of k t))) page) no-tree) ∙ outcome-of k s page
+
+pub shown-short : {reading : List ℕ → Result (Frag ℕ)} {s u : List ℕ} → ShownBy reading s u → length s ≤ most-bytes
+shown-short S = let R = tree-read _ (S .own) (S .are-bytes) (S .reads) in rw (R .encodes) at (R .good .short)
+
+-- the page of an accepted file, as its marks show it
+module _ (k : Kind) (ws s page : List ℕ) (S : ShownBy (tree-of (page-kind k)) s (painted ws s)) where
+  shown-read : Read (painted ws s) (S .root)
+  shown-read = tree-read (painted ws s) (S .root) (S .shown-bytes) (S .shown-reads)
+
+  -- its text, by its bytes, and its length
+  shown-text : page-in k ws s ≡ page-of k (S .root)
+  shown-text =
+      let R = tree-read s (S .own) (S .are-bytes) (S .reads) in
+      page-by-ops k ws s (S .root)
+      (ap (λ (s : List ℕ). fragment-in (marked ws) 32 false 0 0 s) (sym (R .encodes)) ∙ ops-shown ws (S .laid) (R .good) (ap (painted ws) (R .encodes) ∙ sym (shown-read .encodes)))
+
+  shown-outcome : page-outcome k (painted ws s) page ≡ written (leb (length (page-in k ws s)) (length page)) (page-in k ws s) page
   unfolding left-page _>>=_
-  page-refused a q e =
-      let (n, p, no-tree, says) = refused-by (tree-of (page-kind k)) s a e q in
-      ap (λ r. (r, page)) says ∙ sym (ap (λ x. left-page (x >>= (λ t. accepted (page-of k t))) page) no-tree) ∙ outcome-of k s page
+  shown-outcome = sym (outcome-of k (painted ws s) page) ∙ rw (S .shows, shown-text)
 
-  -- an accepted file's text, by its bytes, and its length
-  module _ (b : Bytes s) (a : Answer) {n : ℕ} (q : a ≡ Done n) (e : said a ≡ check-answer-by (tree-of (page-kind k)) s) where
-    abbrev A : (t : Frag ℕ) × (tree-of (page-kind k) s ≡ accepted t)
-    A = accepted-by (tree-of (page-kind k)) s a e q
+  text-short : length (page-in k ws s) ≤ last
+  text-short = rw shown-text (page-last k (S .root) (shown-read .good) (subst Bytes (sym (shown-read .encodes)) (S .shown-bytes)))
 
-    abbrev R : Read s (A .0)
-    R = tree-read s (A .0) b (loose-tree (page-kind k) s (A .0) b (A .1))
+  -- a page that fits is written
+  page-fits : {r : ℕ} {page′ : List ℕ} → length (page-in k ws s) ≤ length page → Written page 0 (page-in k ws s) page′ r → (accepted r, page′) ≡ page-outcome k (painted ws s) page
+  unfolding written
+  page-fits h w = rw (shown-outcome, le-leb (length (page-in k ws s)) (length page) h, how-long w text-short, fits w text-short h) refl
 
-    accepted-text : page-in k s ≡ page-of k (A .0)
-    accepted-text = ap (page-in k) (sym (R .encodes)) ∙ page-by-bytes k (A .0) (R .good)
+  -- one that fits whatever the file is, without being measured
+  pub page-written-at-once : {r : ℕ} {page′ : List ℕ} → surely-fits k (length s) (length page) ≡ true → Written page 0 (page-in k ws s) page′ r
+      → (accepted r, page′) ≡ page-outcome k (painted ws s) page
+  page-written-at-once h w =
+      let h′ : surely-fits k (length (painted ws s)) (length page) ≡ true = ap (λ (n : ℕ). surely-fits k n (length page)) (painted-long ws s) ∙ h in
+      page-fits (rw shown-text (fits-surely k (painted ws s) (S .root) (length page) (S .shown-bytes) (S .shows) h′)) w
 
-    accepted-outcome : page-outcome k s page ≡ written (leb (length (page-in k s)) (length page)) (page-in k s) page
-    unfolding left-page _>>=_
-    accepted-outcome = sym (outcome-of k s page) ∙ rw (A .1, accepted-text)
-
-    text-short : length (page-in k s) ≤ last
-    text-short = rw accepted-text (page-last k (A .0) (R .good) (subst Bytes (sym (R .encodes)) b))
-
-    -- a page that fits is written
-    page-fits : {r : ℕ} {page′ : List ℕ} → length (page-in k s) ≤ length page → Written page 0 (page-in k s) page′ r → (accepted r, page′) ≡ page-outcome k s page
+  -- measuring lends no page, and leaves none in front of the page itself
+  module _ {needed : ℕ} {x : List ℕ} (m : Written [] 0 (page-in k ws s) x needed) where
+    pub page-too-short : length (x ++ page) < needed → (refused 10 needed, x ++ page) ≡ page-outcome k (painted ws s) page
     unfolding written
-    page-fits h w = rw (accepted-outcome, le-leb (length (page-in k s)) (length page) h, how-long w text-short, fits w text-short h) refl
+    page-too-short h =
+        let l : needed ≡ length (page-in k ws s) = how-long m text-short in
+        let none : x ++ page ≡ page = ap (λ (x : List ℕ). x ++ page) (no-page m) in
+        let h′ : length page < length (page-in k ws s) = omega (arith, l, ap length none) in
+        rw (shown-outcome, lt-leb (length (page-in k ws s)) (length page) h′, l, none) refl
 
-    -- one that fits whatever the file is, without being measured
-    pub page-written-at-once : {r : ℕ} {page′ : List ℕ} → surely-fits k (length s) (length page) ≡ true → Written page 0 (page-in k s) page′ r → (accepted r, page′) ≡ page-outcome k s page
-    page-written-at-once h w = page-fits (rw accepted-text (fits-surely k s (A .0) (length page) b (A .1) h)) w
+    pub page-written : {r : ℕ} {page′ : List ℕ} → needed ≤ length (x ++ page) → Written (x ++ page) 0 (page-in k ws s) page′ r → (accepted r, page′) ≡ page-outcome k (painted ws s) page
+    page-written h w =
+        let none : x ++ page ≡ page = ap (λ (x : List ℕ). x ++ page) (no-page m) in
+        page-fits (omega (arith, how-long m text-short, ap length none)) (rw none at w)
 
-    -- measuring lends no page, and leaves none in front of the page itself
-    module _ {needed : ℕ} {x : List ℕ} (m : Written [] 0 (page-in k s) x needed) where
-      pub page-too-short : length (x ++ page) < needed → (refused 10 needed, x ++ page) ≡ page-outcome k s page
-      unfolding written
-      page-too-short h =
-          let l : needed ≡ length (page-in k s) = how-long m text-short in
-          let none : x ++ page ≡ page = ap (λ (x : List ℕ). x ++ page) (no-page m) in
-          let h′ : length page < length (page-in k s) = omega (arith, l, ap length none) in
-          rw (accepted-outcome, lt-leb (length (page-in k s)) (length page) h′, l, none) refl
+-- ---- no marks
 
-      pub page-written : {r : ℕ} {page′ : List ℕ} → needed ≤ length (x ++ page) → Written (x ++ page) 0 (page-in k s) page′ r → (accepted r, page′) ≡ page-outcome k s page
-      page-written h w =
-          let none : x ++ page ≡ page = ap (λ (x : List ℕ). x ++ page) (no-page m) in
-          page-fits (omega (arith, how-long m text-short, ap length none)) (rw none at w)
+pub accepted-shown : (k : Kind) {s : List ℕ} (a : Answer) {n : ℕ} → Bytes s → a ≡ Done n → said a ≡ check-answer-by (tree-of (page-kind k)) s
+    → ShownBy (tree-of (page-kind k)) s (painted [] s)
+accepted-shown k {s} a b q e = let (t, f) = accepted-by (tree-of (page-kind k)) s a e q in shown-by-none b (loose-tree (page-kind k) s t b f) f
+
+pub unmarked-page : (k : Kind) (s page : List ℕ) {x : Result ℕ × List ℕ} → x ≡ page-outcome k (painted [] s) page → x ≡ page-outcome k s page
+unmarked-page k s page e = e ∙ ap (λ (s : List ℕ). page-outcome k s page) (painted-none 0 s)

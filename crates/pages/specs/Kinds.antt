@@ -13,6 +13,7 @@ use Rattle.rules.specs.Html.{opening, closing, before-body, after-body}
 use Rattle.rules.specs.Answers.{itself}
 use Rattle.rules.specs.Alike as rules
 use Rattle.rules.specs.Alike.{Page, plain-page, html-body, html-document, strict-body, strict-document, look-of, outcome-of}
+use Rattle.rules.specs.Marks.{marked}
 use Rattle.pages.specs.OpsIn.{fragment-in}
 use Rattle.pens.specs.Ran.{shown}
 use Rattle.pens.specs.declared.state.Form as F
@@ -52,9 +53,9 @@ foot Fr.the-variants.Nothing = []
 foot Fr.the-variants.Body = closing
 foot Fr.the-variants.Document = closing ++ after-body
 
--- the page of some bytes, whether they are a file or not
-unfoldable pub page-in : K.Kind → List ℕ → List ℕ
-page-in k s = head (framing-of k) ++ (shown (form-of k) (run start (fragment-in most-blocks false 0 s)) ++ foot (framing-of k))
+-- the page of some bytes with marks beside them, whether they are a file or not
+unfoldable pub page-in : K.Kind → (ws s : List ℕ) → List ℕ
+page-in k ws s = head (framing-of k) ++ (shown (form-of k) (run start (fragment-in (marked ws) most-blocks false 0 0 s)) ++ foot (framing-of k))
 
 -- the page of a tree
 unfoldable pub page-of : K.Kind → Frag ℕ → List ℕ

@@ -1,8 +1,8 @@
--- The line operations of a node, of a block's fragments and of a fragment's nodes, by their bytes; for any bytes, so that the
--- functions have no preconditions beyond the indent's.
+-- The line operations of a node, of a block's fragments and of a fragment's nodes, by their bytes and the place where these stand in the file, which a choice is
+-- asked for; for any bytes, so that the functions have no preconditions beyond the indent's and the place's.
 use mathlib.Core.List.{List, [], _∷_, _++_}
 use mathlib.Core.Bool.{Bool, true, false}
-use Prim.Native.Nat.{ℕ, zero, suc}
+use Prim.Native.Nat.{ℕ, zero, suc, _+_}
 use lib.Dec.{leb, eqb}
 use lib.ListN.{length, getD, drop}
 use Rattle.rules.specs.Bytes.{if_then_else_, newline}
@@ -11,18 +11,18 @@ use Rattle.fields.specs.declared.Field.{Field}
 use Rattle.fields.specs.declared.Field.the-variants.{Whole, Past, Cut}
 use Rattle.fields.specs.FieldAt.{field-at}
 use Rattle.styles.specs.StylesIn.{styles-in}
-use Rattle.fields.specs.Walk.{part, here, rest}
+use Rattle.fields.specs.Walk.{part, span, here, rest}
 use Rattle.pens.specs.Ops.{Ops}
 
--- f's operations at each field in turn, for at most k fields
-unfoldable pub each : (List ℕ → Ops) → ℕ → List ℕ → Ops
-each f zero s = []
-each f (suc k) [] = []
-each f (suc k) (x ∷ s) = f (here (x ∷ s)) ++ each f k (rest (x ∷ s))
+-- f's operations at each field in turn, for at most k fields; f is given a field's place too
+unfoldable pub each : (ℕ → List ℕ → Ops) → ℕ → (at : ℕ) → List ℕ → Ops
+each f zero at s = []
+each f (suc k) at [] = []
+each f (suc k) at (x ∷ s) = f at (here (x ∷ s)) ++ each f k (at + span (x ∷ s)) (rest (x ∷ s))
 
--- at each field from `from` on
-unfoldable pub each-from : (List ℕ → Ops) → (from : ℕ) → List ℕ → Ops
-each-from f from s = each f (length s) (drop from s)
+-- at each field from `from` on, where s stands at `at`
+unfoldable pub each-from : (ℕ → List ℕ → Ops) → (at from : ℕ) → List ℕ → Ops
+each-from f at from s = each f (length s) (at + from) (drop from s)
 
 -- ---- a text
 
@@ -49,12 +49,16 @@ run-in v = run-fields-in v (field-at v 0)
 unfoldable pub run-field-in : List ℕ → Ops
 run-field-in h = if leb 3 (length h) then run-in (drop 3 h) else []
 
+-- those from `from` on, wherever they stand
+unfoldable pub runs-in : (from : ℕ) → List ℕ → Ops
+runs-in from v = each-from (λ at. run-field-in) 0 from v
+
 -- the name, and the runs from `to` on
 unfoldable pub named-in : (definition : Bool) → (name : List ℕ) → (to : ℕ) → List ℕ → Ops
 named-in definition name to v =
     if leb (length v) to
     then empty-anchor definition name ∷ []
-    else mark (open-anchor definition name) ∷ (each-from run-field-in to v ++ (mark close-anchor ∷ []))
+    else mark (open-anchor definition name) ∷ (runs-in to v ++ (mark close-anchor ∷ []))
 
 unfoldable pub anchor-fields-in : List ℕ → Field → Ops
 anchor-fields-in v (Whole t from to) = named-in (eqb t 18) (part v from to) to v
@@ -95,22 +99,29 @@ behind-fragment true = break a-newline ∷ []
 behind-fragment false = []
 
 -- a block's fragments, each node by g; h is the block's whole field
-unfoldable pub fragments-by : (directly : Bool) → (List ℕ → Ops) → List ℕ → Ops
-fragments-by directly g h = each-from (λ f. each-from g 3 f ++ behind-fragment directly) 3 h
+unfoldable pub fragments-by : (directly : Bool) → (ℕ → List ℕ → Ops) → (at : ℕ) → List ℕ → Ops
+fragments-by directly g at h = each-from (λ at f. each-from g at 3 f ++ behind-fragment directly) at 3 h
 
 -- an indented block
-unfoldable pub indented-by : (List ℕ → Ops) → List ℕ → Ops
-indented-by g h = indent ∷ ((break a-newline ∷ fragments-by true g h) ++ (unindent ∷ []))
+unfoldable pub indented-by : (ℕ → List ℕ → Ops) → (at : ℕ) → List ℕ → Ops
+indented-by g at h = indent ∷ ((break a-newline ∷ fragments-by true g at h) ++ (unindent ∷ []))
 
--- a node, and a fragment's nodes from `from` on, with at most `left` blocks inside each other
-unfoldable pub node-in : (left : ℕ) → (directly : Bool) → List ℕ → Ops
-node-in zero directly h = node-by directly [] [] h
-node-in (suc left) directly h = node-by directly (indented-by (node-in left true) h) (fragments-by false (node-in left false) h) h
+module _ (choice : ℕ → Bool) where
+  -- a node, and a fragment's nodes from `from` on, with at most `left` blocks inside each other. A 4 that is chosen is as a 3
+  unfoldable pub node-in : (left : ℕ) → (directly : Bool) → (at : ℕ) → List ℕ → Ops
+  node-in zero directly at h = node-by directly [] [] h
+  node-in (suc left) directly at h =
+      let three : Ops = indented-by (node-in left true) at h in
+      node-by directly three (if choice at then three else fragments-by false (node-in left false) at h) h
 
--- what a 3 gives
-unfoldable pub three-in : (left : ℕ) → List ℕ → Ops
-three-in zero h = []
-three-in (suc left) h = indented-by (node-in left true) h
+  -- what a 3 gives, and what a 4 does
+  unfoldable pub three-in : (left : ℕ) → (at : ℕ) → List ℕ → Ops
+  three-in zero at h = []
+  three-in (suc left) at h = indented-by (node-in left true) at h
 
-unfoldable pub fragment-in : (left : ℕ) → (directly : Bool) → (from : ℕ) → List ℕ → Ops
-fragment-in left directly from s = each-from (node-in left directly) from s
+  unfoldable pub four-in : (left : ℕ) → (at : ℕ) → List ℕ → Ops
+  four-in zero at h = []
+  four-in (suc left) at h = if choice at then indented-by (node-in left true) at h else fragments-by false (node-in left false) at h
+
+  unfoldable pub fragment-in : (left : ℕ) → (directly : Bool) → (at from : ℕ) → List ℕ → Ops
+  fragment-in left directly at from s = each-from (node-in left directly) at from s

@@ -18,7 +18,7 @@ use pens::state::is_plain;
 ghost use mathlib.Core.Path.{_≡_};
 ghost use Prim.Native.Nat.{_-_, _<_, _≤_, _^_};
 ghost use lib.ListN.{length, take, drop};
-ghost use Rattle.pages.specs.OpsIn.{run-in, run-field-in, each-from, anchor-in, if-block-in, leaf-in};
+ghost use Rattle.pages.specs.OpsIn.{run-in, run-field-in, runs-in, anchor-in, if-block-in, leaf-in};
 ghost use Rattle.pages.specs.OneLines.{BeginsAt};
 ghost use Rattle.pens.specs.declared.state.Form.the-variants as Form;
 ghost use Rattle.pens.specs.Ran.{form, indent-of, Rendered};
@@ -95,7 +95,7 @@ fn render_one(s: &[u8], start: usize, to: usize, page: &mut [u8], pen: Pen) -> P
 // The fields of a 2 from `from` on.
 fn render_runs(v: &[u8], from: usize, page: &mut [u8], pen: Pen) -> Pen
     requires { ⌜ indent-of pen < 2 ^ 15 ⌝ }
-    ensures { λ r. ⌜ Rendered (each-from run-field-in from (now (v .entry))) pen (now (page .entry)) r (now (page .exit)) ⌝ }
+    ensures { λ r. ⌜ Rendered (runs-in from (now (v .entry))) pen (now (page .entry)) r (now (page .exit)) ⌝ }
 {
     let mut p = pen;
     let mut at = from;

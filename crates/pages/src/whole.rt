@@ -18,15 +18,21 @@ use rules::Refusal;
 use verify::walk::check;
 use verify::walk::check_strict;
 ghost use mathlib.Core.Path.{_≡_};
+ghost use Prim.Native.Nat.{_≤_};
+ghost use lib.ListN.{length};
+ghost use Rattle.rules.specs.Limits.{most-bytes};
 ghost use Rattle.rules.specs.Result.{said};
+ghost use Rattle.rules.specs.Marks.{painted};
+ghost use Rattle.rules.proofs.Marked.{ShownBy};
 ghost use Rattle.rules.specs.Alike.{tree-of};
 ghost use Rattle.rules.specs.Answers.{check-answer-by};
 ghost use Rattle.writing.specs.Written.{Written};
 ghost use Rattle.pages.specs.Kinds.{page-kind, page-in, html-fits, surely-fits, page-outcome};
 
 // Writes the page as far as it goes, and answers how many bytes all of it needs.
-fn render(kind: Kind, file: &[u8], page: &mut [u8]) -> usize
-    ensures { λ r. ⌜ Written (now (page .entry)) 0 (page-in kind (now (file .entry))) (now (page .exit)) r ⌝ }
+fn render(kind: Kind, file: &[u8], marks: &[u64], page: &mut [u8]) -> usize
+    requires { ⌜ length (now file) ≤ most-bytes ⌝ }
+    ensures { λ r. ⌜ Written (now (page .entry)) 0 (page-in kind (now (marks .entry)) (now (file .entry))) (now (page .exit)) r ⌝ }
 {
     let framing = framing_of(kind);
     let at = put_head(page, 0, framing);
@@ -34,7 +40,7 @@ fn render(kind: Kind, file: &[u8], page: &mut [u8]) -> usize
         at,
         state: state_of(start(), form_of(kind)),
     };
-    let p = render_fragment(file, 0, page, pen, false, MOST_BLOCKS);
+    let p = render_fragment(file, 0, page, pen, false, MOST_BLOCKS, marks, 0);
     put_foot(page, p.at, framing)
 }
 
@@ -72,7 +78,22 @@ fn check_for(kind: Kind, file: &[u8]) -> Answer
     check_strict(file)
 }
 
-// Answers the page's length, and writes it from the page's start; a refusal changes no byte.
+// The page of an accepted file as its marks show it: answers the page's length, and writes it from the page's start; a refusal changes no byte.
+pub fn render_shown(kind: Kind, file: &[u8], marks: &[u64], page: &mut [u8]) -> Answer
+    requires { ⌜ ShownBy (tree-of (page-kind kind)) (now file) (painted (now marks) (now file)) ⌝ }
+    ensures { λ r. ⌜ (said r, now (page .exit)) ≡ page-outcome kind (painted (now (marks .entry)) (now (file .entry))) (now (page .entry)) ⌝ }
+{
+    if surely_fits(kind, file.len(), page.len()) {
+        return Answer::Done(render(kind, file, marks, page));
+    }
+    let needed = render(kind, file, marks, &mut page[..0]);
+    if page.len() < needed {
+        return Answer::Refused(Refusal::PageTooShort(needed));
+    }
+    Answer::Done(render(kind, file, marks, page))
+}
+
+// The same of any file, with its own tags.
 pub fn render_page(kind: Kind, file: &[u8], page: &mut [u8]) -> Answer
     ensures { λ r. ⌜ (said r, now (page .exit)) ≡ page-outcome kind (now (file .entry)) (now (page .entry)) ⌝ }
 {
@@ -80,12 +101,6 @@ pub fn render_page(kind: Kind, file: &[u8], page: &mut [u8]) -> Answer
     let Answer::Done(n) = a else {
         return a;
     };
-    if surely_fits(kind, file.len(), page.len()) {
-        return Answer::Done(render(kind, file, page));
-    }
-    let needed = render(kind, file, &mut page[..0]);
-    if page.len() < needed {
-        return Answer::Refused(Refusal::PageTooShort(needed));
-    }
-    Answer::Done(render(kind, file, page))
+    let none = [0u64; 0];
+    render_shown(kind, file, &none, page)
 }
