@@ -1,0 +1,2 @@
+-- Laws that the proof of the code cites.
+pub mod Laws
