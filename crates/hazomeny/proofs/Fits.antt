@@ -11,10 +11,12 @@ use Rattle.rules.specs.Layout.{layout}
 use Rattle.rules.specs.Good.{Bytes}
 use Rattle.rules.specs.Plain.{fill}
 use Rattle.rules.specs.Answers.{itself, tree, strict-tree, check-answer, strict-check-answer, check-answer-by, laid-out-by, left-laid, layout-outcome, layout-outcome-by, written, left-page, coded, coded-outcome}
+use Rattle.rules.specs.Prints.{printed, print-outcome}
 use Rattle.rules.specs.Alike.{Page, plain-page, html-body, html-document, strict-body, strict-document, outcome-of, tree-of, look-of, shown}
 use Rattle.rules.proofs.Files.{Read, tree-read}
 use Rattle.rules.proofs.Refused.{Refusable, RefusableBy, StrictFault, too-long, at-fault, refused-place, strict-refused-place}
 use Rattle.rules.proofs.Strict.{loose-tree}
+use Rattle.rules.proofs.LeftLaid.{turned-bytes, turns}
 use Rattle.rules.proofs.Unique.{Numbered}
 use Rattle.rules.proofs.Demand3.{by-kind}
 use Rattle.lengths.proofs.HtmlLengths.{page-short}
@@ -98,6 +100,26 @@ told-page k s page b = rw (by-kind k s page) (go (tree-of k s) refl)
         let text = fill itself (shown k (look-of k) newline t) in
         told-written (leb (length text) (length page)) text page (page-short k t (R .good) (subst Bytes (sym (R .encodes)) b))
 
+-- ---- a page at a width
+
+laid-bytes : (w : ℕ) (s : List ℕ) → Bytes s → Bytes (layout-outcome w s .1)
+unfolding layout-outcome-by laid-out-by left-laid need _>>_ _>>=_
+laid-bytes w s b = go (leb (length s) most-bytes) (leb w most-columns) (tree s) refl
+  where
+    go : (c d : Bool) (x : Result (Frag ℕ)) → tree s ≡ x → Bytes (left-laid s (need c 1 0 >> (need d 2 0 >> (x >>= (λ t. accepted (layout newline w t))))) .1)
+    go false d x e = b
+    go true false x e = b
+    go true true (refused n p) e = b
+    go true true (accepted t) e = turned-bytes s _ (turns w s t b e) b
+
+told-print : (w : ℕ) (s page : List ℕ) → Bytes s → Told (print-outcome w s page .0)
+unfolding print-outcome printed
+told-print w s page b = go (layout-outcome w s .0) (told-layout w s)
+  where
+    go : (x : Result ℕ) → Told x → Told (printed x (layout-outcome w s .1) page .0)
+    go (refused n p) T = T
+    go (accepted n) T = told-page plain-page (layout-outcome w s .1) page (laid-bytes w s b)
+
 -- ---- the mask, and the pair
 
 short : (s : List ℕ) (t : Frag ℕ) → Bytes s → tree s ≡ accepted t → length s ≤ most-bytes
@@ -155,6 +177,9 @@ coded-fits o h e = subst (λ (x : Result ℕ). coded x < 2 ^ 64) (sym (ap (λ (x
 
 pub page-fits : (k : Page) (s page : List ℕ) {a : Result ℕ} {r : List ℕ} → (a, r) ≡ outcome-of k s page → ((i : ℕ) → getD s i 0 < 256) → coded a < 2 ^ 64
 page-fits k s page e b = coded-fits (outcome-of k s page) (told-page k s page (every-byte s b)) e
+
+pub print-fits : (w : ℕ) (s page : List ℕ) {a : Result ℕ} {r : List ℕ} → (a, r) ≡ print-outcome w s page → ((i : ℕ) → getD s i 0 < 256) → coded a < 2 ^ 64
+print-fits w s page e b = coded-fits (print-outcome w s page) (told-print w s page (every-byte s b)) e
 
 pub mask-fits : (s page : List ℕ) {a : Result ℕ} {r : List ℕ} → (a, r) ≡ mask-outcome s page → ((i : ℕ) → getD s i 0 < 256) → coded a < 2 ^ 64
 mask-fits s page e b = coded-fits (mask-outcome s page) (told-mask s page (every-byte s b)) e

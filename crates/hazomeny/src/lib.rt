@@ -8,6 +8,7 @@ use masking::pair::check_pair;
 use masking::reading::text_part;
 use pages::frame::Kind;
 use pages::whole::render_page;
+use prints::print_at;
 use quick::steps::LAST_QUICK;
 use quick::steps::quick_step;
 use rules::Answer;
@@ -25,6 +26,7 @@ ghost use Rattle.scribe.specs.InC.{write-in-c, Leaves};
 ghost use Rattle.pairs.specs.Masking.{mask-outcome};
 ghost use Rattle.pairs.specs.Pair as pairs;
 ghost use Rattle.pairs.specs.Pair.{pair-answer, given-text};
+ghost use Rattle.rules.specs.Prints.{print-outcome};
 ghost use Rattle.rules.specs.Answers.{check-answer, layout-outcome, plain-outcome, body-outcome, document-outcome, strict-check-answer, strict-body-outcome, strict-document-outcome, coded, coded-outcome};
 
 // The file check: accepted with 0, or the first fault's number and place.
@@ -82,6 +84,15 @@ pub extern "C" fn hazomeny_plain(file: &[u8], page: &mut [u8]) -> u64
     ensures { λ r. ⌜ (r, now (page .exit)) ≡ coded-outcome (plain-outcome (now (file .entry)) (now (page .entry))) ⌝ }
 {
     in_one(plain_page(file, page))
+}
+
+// The plain page of a file at a width: layout and plain page in one, with the file only read. Refusals as layout's, then 10. It is for the command and for
+// `./bench`; the header and the bindings have no name for it.
+#[no_mangle]
+pub extern "C" fn hazomeny_print(file: &[u8], width: usize, page: &mut [u8]) -> u64
+    ensures { λ r. ⌜ (r, now (page .exit)) ≡ coded-outcome (print-outcome width (now (file .entry)) (now (page .entry))) ⌝ }
+{
+    in_one(print_at(file, width, page))
 }
 
 // The HTML body: one `pre` element. Otherwise as the plain page.
