@@ -3,7 +3,8 @@ use Rattle.rules.proofs.Basics.{_≡_, sym, subst, List, _++_, Bool, true, fals
 use Rattle.rules.specs.declared.Answer.{Answer}
 use Rattle.rules.specs.declared.Answer.the-variants.{Done}
 use Rattle.rules.specs.Result.{Result, refused, accepted, said}
-use Rattle.rules.specs.Answers.{written, left-page, plain-text, plain-outcome, plain-outcome-by, document-text, document-outcome, document-outcome-by, strict-document-text, strict-document-outcome}
+use Rattle.rules.specs.Prints.{printed, print-outcome}
+use Rattle.rules.specs.Answers.{written, left-page, layout-outcome, plain-text, plain-outcome-by, document-text, document-outcome, document-outcome-by, strict-document-text, strict-document-outcome}
 use Rattle.pairs.specs.Masking.{mask-text, mask-outcome}
 
 -- an entry's count is within its page, so as many bytes can be taken from the page's start
@@ -24,14 +25,19 @@ left-within (accepted text) page = go (leb (length text) (length page))
     go true = omega (arith, length-append text (drop (length text) page), length-take (length text) (text ++ drop (length text) page))
     go false = tt
 
+printed-within : (x : Result ℕ) (s page : List ℕ) → Within (printed x s page .0) (printed x s page .1)
+unfolding printed plain-outcome-by
+printed-within (refused n p) s page = tt
+printed-within (accepted n) s page = left-within (plain-text s) page
+
 module _ (s page : List ℕ) (a : Answer) {n : ℕ} {page′ : List ℕ} (q : a ≡ Done n) where
   counted : (x : Result (List ℕ)) → (said a, page′) ≡ left-page x page → InPage n page′
   unfolding said
   counted x e = subst (λ (o : Result ℕ × List ℕ). Within (o .0) (o .1)) (sym (rw q at e)) (left-within x page)
 
-  pub plain-in-page : (said a, page′) ≡ plain-outcome s page → InPage n page′
-  unfolding plain-outcome-by
-  plain-in-page e = counted (plain-text s) e
+  pub print-in-page : (w : ℕ) → (said a, page′) ≡ print-outcome w s page → InPage n page′
+  unfolding said print-outcome
+  print-in-page w e = subst (λ (o : Result ℕ × List ℕ). Within (o .0) (o .1)) (sym (rw q at e)) (printed-within (layout-outcome w s .0) (layout-outcome w s .1) page)
 
   pub document-in-page : (said a, page′) ≡ document-outcome s page → InPage n page′
   unfolding document-outcome-by

@@ -1,12 +1,11 @@
 // The page program: the plain page of the file on standard input, at the width before it.
 use libc::STDIN_FILENO;
 use printing::INPUT;
-use printing::Wanted;
-use printing::print_asked;
+use printing::print_plain;
 
 fn main() {
     let mut input = [0u8; INPUT];
     let mut page = [0u8; 65536];
     let n = io::read_full(STDIN_FILENO, &mut input);
-    print_asked(Wanted::PlainPage, &mut input[..n], &mut page);
+    print_plain(&input[..n], &mut page);
 }

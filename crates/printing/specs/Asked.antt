@@ -5,14 +5,14 @@ use lib.Dec.{leb}
 use lib.ListN.{length, getD, take, drop}
 use Rattle.rules.specs.Bytes.{if_then_else_}
 use Rattle.rules.specs.Result.{Result, refused, accepted}
-use Rattle.rules.specs.Answers.{layout-outcome, plain-outcome, document-outcome, strict-document-outcome}
+use Rattle.rules.specs.Answers.{layout-outcome, document-outcome, strict-document-outcome}
+use Rattle.rules.specs.Prints.{print-outcome}
 use Rattle.pairs.specs.Masking.{mask-outcome}
 use Rattle.printing.specs.declared.Wanted.{Wanted}
-use Rattle.printing.specs.declared.Wanted.the-variants.{PlainPage, Document, StrictDocument}
+use Rattle.printing.specs.declared.Wanted.the-variants.{Document, StrictDocument}
 
 -- the page with what is wanted of a file
 unfoldable pub with-page : Wanted → (file page : List ℕ) → List ℕ
-with-page PlainPage file page = plain-outcome file page .1
 with-page Document file page = document-outcome file page .1
 with-page StrictDocument file page = strict-document-outcome file page .1
 
@@ -32,8 +32,16 @@ laid-at wanted width file page = laid wanted (layout-outcome width file .0) (lay
 unfoldable pub behind-width : List ℕ → List ℕ × List ℕ → List ℕ × List ℕ
 behind-width input x = (take 2 input ++ x .0, x .1)
 
+-- the width before the file
+abbrev pub width-in : List ℕ → ℕ
+width-in input = getD input 0 0 * 256 + getD input 1 0
+
 unfoldable pub asked : Wanted → (input page : List ℕ) → List ℕ × List ℕ
 asked wanted input page =
     if leb 2 (length input)
-    then behind-width input (laid-at wanted (getD input 0 0 * 256 + getD input 1 0) (drop 2 input) page)
+    then behind-width input (laid-at wanted (width-in input) (drop 2 input) page)
     else (input, page)
+
+-- the page with the plain page of a file at a width, which stands before it
+unfoldable pub plainly-asked : (input page : List ℕ) → List ℕ
+plainly-asked input page = if leb 2 (length input) then print-outcome (width-in input) (drop 2 input) page .1 else page

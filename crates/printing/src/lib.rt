@@ -1,13 +1,13 @@
-// Printing a page that is asked for in some input: two bytes of width, high byte first, and a file. The file is laid out at the width, and its
-// page printed and nothing more; a refusal prints `refused N at P` and a newline.
+// Printing a page that is asked for in some input: two bytes of width, high byte first, and a file. The file's page at the width is printed and nothing
+// more; a refusal prints `refused N at P` and a newline.
 use fields::wide;
 use hazomeny::check_file_strict;
 use hazomeny::html_document;
 use hazomeny::html_document_strict;
 use hazomeny::layout_file;
 use hazomeny::mask_file;
-use hazomeny::plain_page;
 use libc::STDOUT_FILENO;
+use prints::print_at;
 use rules::Answer;
 use rules::MOST_BYTES;
 use rules::Refusal;
@@ -15,7 +15,7 @@ use telling::end_line;
 use telling::tell_refusal;
 ghost use mathlib.Core.Path.{_≡_};
 ghost use Rattle.printing.specs.Shown.{Shown};
-ghost use Rattle.printing.specs.Asked.{with-page, with-mask, laid-at, asked};
+ghost use Rattle.printing.specs.Asked.{with-page, with-mask, laid-at, asked, plainly-asked};
 
 // Room for a file, and for one byte more than it may have: a longer one is refused, and no more of it is read.
 pub const FILE: usize = MOST_BYTES + 1;
@@ -25,7 +25,6 @@ pub const INPUT: usize = 2 + FILE;
 
 // What is printed of the file.
 pub enum Wanted {
-    PlainPage,
     Document,
     StrictDocument,
 }
@@ -51,10 +50,6 @@ fn print_page(wanted: Wanted, file: &[u8], page: &mut [u8])
     ensures { λ _. ⌜ now (page .exit) ≡ with-page wanted (now (file .entry)) (now (page .entry)) ⌝ }
 {
     match wanted {
-        Wanted::PlainPage => {
-            let a = plain_page(file, page);
-            print_answer(page, a);
-        }
         Wanted::Document => {
             let a = html_document(file, page);
             print_answer(page, a);
@@ -79,8 +74,8 @@ fn refuse_layout(wanted: Wanted, file: &[u8], r: Refusal) {
     match r {
         Refusal::TooWide => refuse(r),
         _ => match wanted {
+            Wanted::Document => refuse(r),
             Wanted::StrictDocument => refuse_strictly(file, r),
-            _ => refuse(r),
         },
     }
 }
@@ -105,6 +100,19 @@ pub fn print_asked(wanted: Wanted, input: &mut [u8], page: &mut [u8])
     }
     let width = wide(input[0]) * 256 + wide(input[1]);
     lay_out_and_print(wanted, &mut input[2..], width, page);
+}
+
+// The same for the plain page, in one call that only reads the input.
+pub fn print_plain(input: &[u8], page: &mut [u8])
+    ensures { λ _. ⌜ now (page .exit) ≡ plainly-asked (now (input .entry)) (now (page .entry)) ⌝ }
+{
+    if input.len() < 2 {
+        refuse(Refusal::Cut(0));
+        return;
+    }
+    let width = wide(input[0]) * 256 + wide(input[1]);
+    let a = print_at(&input[2..], width, page);
+    print_answer(page, a);
 }
 
 // The mask of a file, and nothing more; or the refusal.
