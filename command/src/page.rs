@@ -1,9 +1,12 @@
 //! A page of a fragment file at a width, by the proved library.
 
-use hazomeny::{append_html_body, append_html_document, append_plain_page};
+use hazomeny::{append_html_body, append_html_document, append_page_at};
 use hazomeny::{append_html_body_strict, append_html_document_strict};
 use hazomeny::{check_file_strict, layout_file, Refusal};
 use hazomeny::{HTML_FRAME, HTML_PER_BYTE, PLAIN_PER_BYTE};
+
+/// An entry of the library that appends a page of a file.
+type Append = fn(&[u8], &mut Vec<u8>) -> Result<usize, Refusal>;
 
 #[derive(Clone, Copy)]
 pub enum Kind {
@@ -31,20 +34,28 @@ impl Kind {
         }
     }
 
-    /// Lays the file out and has its page made. Where layout takes a file whose strict page is refused, the file stays laid out.
+    /// Has the file's page at a width made. For HTML the file is laid out; where layout takes a file whose strict page is refused, it stays so.
     pub fn of(self, file: &mut [u8], width: usize) -> Result<Vec<u8>, Refusal> {
-        if let Err(refusal) = layout_file(file, width) {
-            return Err(self.first_fault(refusal, file));
-        }
         let mut page = Vec::with_capacity(self.room(file.len()));
         match self {
-            Self::Plain => append_plain_page(file, &mut page)?,
-            Self::Body => append_html_body(file, &mut page)?,
-            Self::Document => append_html_document(file, &mut page)?,
-            Self::StrictBody => append_html_body_strict(file, &mut page)?,
-            Self::StrictDocument => append_html_document_strict(file, &mut page)?,
-        };
+            Self::Plain => append_page_at(file, width, &mut page),
+            Self::Body => self.html(append_html_body, file, width, &mut page),
+            Self::Document => self.html(append_html_document, file, width, &mut page),
+            Self::StrictBody => self.html(append_html_body_strict, file, width, &mut page),
+            Self::StrictDocument => self.html(append_html_document_strict, file, width, &mut page),
+        }?;
         Ok(page)
+    }
+
+    fn html(
+        self,
+        append: Append,
+        file: &mut [u8],
+        width: usize,
+        page: &mut Vec<u8>,
+    ) -> Result<usize, Refusal> {
+        layout_file(file, width).map_err(|refusal| self.first_fault(refusal, file))?;
+        append(file, page)
     }
 
     /// Layout takes a NUL, so that before the fault that it found in the walk a strict page may have one of its own.

@@ -10,9 +10,10 @@ use std::process::Command;
 pub const ARGUMENT: &str = "counted";
 
 /// What is counted, in the order of the table's columns.
-const JOBS: [Job; 5] = [
+const JOBS: [Job; 6] = [
     Job::OursCheck,
     Job::OursPlain,
+    Job::OursPrint,
     Job::RustPlain,
     Job::OursHtml,
     Job::RustHtml,

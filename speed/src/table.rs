@@ -14,17 +14,18 @@ pub fn ratio(row: &Row, rust: Job, ours: Job) -> f64 {
 pub fn times(rows: &[Row]) -> String {
     let mut out = String::from(
         "The Rust's time over ours (above 1 the library is faster), medians; `check`: the share of ours that one file check takes\n\n\
-         | Files | Bytes | Plain page, from bytes | Plain page, of a tree | HTML, from bytes | HTML, of a tree | check |\n\
-         |---|---|---|---|---|---|---|\n",
+         | Files | Bytes | Plain page, from bytes | Plain page, in one call | Plain page, of a tree | HTML, from bytes | HTML, of a tree | check |\n\
+         |---|---|---|---|---|---|---|---|\n",
     );
     for row in rows {
         let plain = ratio(row, Job::RustPlain, Job::OursPlain);
+        let print = ratio(row, Job::RustPlain, Job::OursPrint);
         let plain_of_tree = ratio(row, Job::RustPlainOfTree, Job::OursPlain);
         let html = ratio(row, Job::RustHtml, Job::OursHtml);
         let html_of_tree = ratio(row, Job::RustHtmlOfTree, Job::OursHtml);
         let check = row.time(Job::OursCheck) / row.time(Job::OursPlain);
         out += &format!(
-            "| {} | {} | {plain:.2} | {plain_of_tree:.2} | {html:.2} | {html_of_tree:.2} | {check:.2} |\n",
+            "| {} | {} | {plain:.2} | {print:.2} | {plain_of_tree:.2} | {html:.2} | {html_of_tree:.2} | {check:.2} |\n",
             row.kind, row.length
         );
     }
@@ -35,12 +36,16 @@ pub fn times(rows: &[Row]) -> String {
 pub fn quartiles(rows: &[Row]) -> String {
     let mut out = String::from(
         "\nThe Rust's time over ours in the same round: median (lower to upper quartile)\n\n\
-         | Files | Bytes | Plain page, from bytes | HTML, from bytes |\n|---|---|---|---|\n",
+         | Files | Bytes | Plain page, from bytes | Plain page, in one call | HTML, from bytes |\n|---|---|---|---|---|\n",
     );
     for row in rows {
         let plain = row.ratios(Job::RustPlain, Job::OursPlain);
+        let print = row.ratios(Job::RustPlain, Job::OursPrint);
         let html = row.ratios(Job::RustHtml, Job::OursHtml);
-        out += &format!("| {} | {} | {plain} | {html} |\n", row.kind, row.length);
+        out += &format!(
+            "| {} | {} | {plain} | {print} | {html} |\n",
+            row.kind, row.length
+        );
     }
     out
 }
@@ -77,9 +82,9 @@ pub fn counts(rows: &Result<Vec<counts::Row>, String>) -> String {
         Err(why) => return format!("\nInstructions: not counted ({why})\n"),
     };
     let mut out = String::from(
-        "\nInstructions of one call, counted by callgrind: the file check, which the Rust has not; layout and plain page, and the HTML document, from bytes\n\n\
-         | Files | Bytes | Ours: check | Ours: plain page | The Rust: plain page | Ours: HTML | The Rust: HTML |\n\
-         |---|---|---|---|---|---|---|\n",
+        "\nInstructions of one call, counted by callgrind: the file check, which the Rust has not; layout and plain page, the same in one call, and the HTML document, from bytes\n\n\
+         | Files | Bytes | Ours: check | Ours: plain page | Ours: in one call | The Rust: plain page | Ours: HTML | The Rust: HTML |\n\
+         |---|---|---|---|---|---|---|---|\n",
     );
     for row in rows {
         let counts = row.counts.map(|count| count.to_string());

@@ -21,6 +21,8 @@ pub enum Job {
     OursCheck,
     /// Layout on a copy of the file, then its plain page.
     OursPlain,
+    /// The plain page at a width in one call, which only reads the file and checks it once.
+    OursPrint,
     /// From the file's bytes: the tree is built, laid out, printed and dropped.
     RustPlain,
     /// Layout and printing of a tree that is there.
@@ -40,9 +42,10 @@ pub enum Job {
 }
 
 impl Job {
-    pub const ALL: [Self; 9] = [
+    pub const ALL: [Self; 10] = [
         Self::OursCheck,
         Self::OursPlain,
+        Self::OursPrint,
         Self::RustPlain,
         Self::RustPlainOfTree,
         Self::OursHtml,
@@ -59,16 +62,18 @@ pub enum Entry {
     CheckFile,
     LayoutFile,
     PlainPage,
+    Print,
     HtmlBody,
     HtmlDocument,
     Writer,
 }
 
 impl Entry {
-    pub const ALL: [Self; 6] = [
+    pub const ALL: [Self; 7] = [
         Self::CheckFile,
         Self::LayoutFile,
         Self::PlainPage,
+        Self::Print,
         Self::HtmlBody,
         Self::HtmlDocument,
         Self::Writer,
@@ -79,6 +84,7 @@ impl Entry {
             Self::CheckFile => "check_file",
             Self::LayoutFile => "layout_file",
             Self::PlainPage => "plain_page",
+            Self::Print => "hazomeny_print",
             Self::HtmlBody => "html_body",
             Self::HtmlDocument => "html_document",
             Self::Writer => "Writer",
@@ -93,6 +99,8 @@ pub struct Bench {
     laid_out: Vec<u8>,
     copy: Vec<u8>,
     page: Vec<u8>,
+    /// What is printed in one call is appended, so it has a vector of its own.
+    printed: Vec<u8>,
 }
 
 impl Bench {
@@ -102,6 +110,7 @@ impl Bench {
         let mut bench = Self {
             copy: file.clone(),
             page: vec![0; ROOM],
+            printed: Vec::with_capacity(ROOM),
             laid_out,
             steps: Steps::of(&file),
             file,
@@ -110,12 +119,14 @@ impl Bench {
         bench
     }
 
-    /// What is timed as writing gives this file, and what is timed as building gives its tree, seen by its page.
+    /// What is timed as writing gives this file, what is timed as building gives its tree, seen by its page, and printing in one call gives that page.
     fn hold_steps_to_file(&mut self) {
         self.call(Entry::Writer);
         assert_eq!(self.page[..self.file.len()], self.file);
         let tree = self.steps.build().layout_with_max_line_width(WIDTH);
         assert_eq!(tree.to_string().into_bytes(), self.plain_page());
+        self.call(Entry::Print);
+        assert_eq!(self.printed, self.plain_page());
     }
 
     /// The plain page of the file that is laid out.
@@ -154,6 +165,7 @@ impl Bench {
                 self.call(Entry::LayoutFile);
                 self.call(Entry::PlainPage);
             }
+            Job::OursPrint => self.call(Entry::Print),
             Job::RustPlain | Job::RustPlainOfTree => {
                 drop(black_box(tree::laid_out_plain(&self.file, WIDTH as u16)));
             }
@@ -172,6 +184,10 @@ impl Bench {
             Entry::CheckFile => hazomeny::check_file(&self.file),
             Entry::LayoutFile => hazomeny::layout_file(&mut self.copy, WIDTH),
             Entry::PlainPage => hazomeny::plain_page(&self.copy, &mut self.page),
+            Entry::Print => {
+                self.printed.clear();
+                hazomeny::append_page_at(&self.file, WIDTH, &mut self.printed)
+            }
             Entry::HtmlBody => hazomeny::html_body(&self.laid_out, &mut self.page),
             Entry::HtmlDocument => hazomeny::html_document(&self.laid_out, &mut self.page),
             Entry::Writer => self.steps.write(&mut self.page),

@@ -247,6 +247,28 @@ static void try_strict(uint64_t checked, size_t most) {
     both_modes("html_document in both modes", hazomeny_html_document, hazomeny_html_document_strict);
 }
 
+/* ---- a page at a width in one call ---- */
+
+/* The header leaves it out, since only the command and the benchmark use it. */
+uint64_t hazomeny_print(const uint8_t *file, size_t length, size_t width, uint8_t *page, size_t room);
+
+static size_t print_width;
+static uint8_t printed[MOST_PAGE];
+
+static uint64_t print_at(const uint8_t *file, size_t length, uint8_t *page, size_t room) { return hazomeny_print(file, length, print_width, page, room); }
+
+/* It answers and writes what the layout that follows and the plain page of what that leaves do. */
+static void print_and_layout(uint64_t checked, size_t width) {
+    print_width = width;
+    uint64_t refused = width > WIDEST && checked != 1 ? 2 : checked;
+    pages("print", print_at, HAZOMENY_PLAIN_PER_BYTE * length, refused);
+    uint64_t said = print_at(lent_file(0), length, printed, MOST_PAGE);
+    layout(checked, width);
+    if (refused) return;
+    uint8_t *page = lent(0, ways[0].pages, MOST_PAGE);
+    demand(hazomeny_plain(lent_file(0), length, page, MOST_PAGE) == said && memcmp(page, printed, hazomeny_number(said)) == 0, "a page in one call that is not the one in two");
+}
+
 static size_t any_width(void) {
     switch (below(8)) {
     case 0: return WIDEST + below(3);
@@ -269,7 +291,7 @@ static void try_file(void) {
     pages("html_body", hazomeny_html_body, html, checked);
     pages("html_document", hazomeny_html_document, html, checked);
     try_strict(checked, html);
-    layout(checked, width);
+    print_and_layout(checked, width);
     if (checked == 0) keep_some();
 }
 

@@ -1,4 +1,4 @@
-//! The C names of the proved library, which `include/hazomeny.h` describes, and what their answers say.
+//! The C names of the proved library, which `include/hazomeny.h` describes but for `hazomeny_print`, and what their answers say.
 
 use crate::Refusal;
 
@@ -7,6 +7,13 @@ extern "C" {
     pub fn hazomeny_check_strict(file: *const u8, length: usize) -> u64;
     pub fn hazomeny_layout(file: *mut u8, length: usize, width: usize) -> u64;
     pub fn hazomeny_plain(file: *const u8, length: usize, page: *mut u8, room: usize) -> u64;
+    pub fn hazomeny_print(
+        file: *const u8,
+        length: usize,
+        width: usize,
+        page: *mut u8,
+        room: usize,
+    ) -> u64;
     pub fn hazomeny_html_body(file: *const u8, length: usize, page: *mut u8, room: usize) -> u64;
     pub fn hazomeny_html_document(
         file: *const u8,

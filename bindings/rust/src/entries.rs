@@ -174,6 +174,16 @@ pub fn append_mask(file: &[u8], page: &mut Vec<u8>) -> Result<usize, Refusal> {
     append(c::hazomeny_mask, counted(file), file, page)
 }
 
+/// Appends the plain page of a file at a width, which is [`layout_file`] on a copy of the file and [`append_plain_page`] of that in one call that
+/// only reads the file. It is for the command and the benchmark: such an entry, with the choices for each block, is still to come.
+#[doc(hidden)]
+pub fn append_page_at(file: &[u8], width: usize, page: &mut Vec<u8>) -> Result<usize, Refusal> {
+    append_by(most_plain(file), page, |start, room| {
+        // SAFETY: as in `append`.
+        unsafe { c::hazomeny_print(file.as_ptr(), file.len(), width, start, room) }
+    })
+}
+
 /// An entry that writes to a page, by its C name.
 pub(crate) type PageEntry = unsafe extern "C" fn(*const u8, usize, *mut u8, usize) -> u64;
 
@@ -198,18 +208,29 @@ pub(crate) fn most_html(file: &[u8]) -> usize {
     HTML_PER_BYTE * counted(file) + HTML_FRAME
 }
 
-/// Has a page written behind what a vector holds, and makes room for the most bytes that it can have. Where a vector that had no room before has
-/// some left, its bytes are copied out of it: to shrink it costs the allocator more, which keeps a large mapping for a small page and makes the
-/// next one anew.
+/// Has a page of a file written behind what a vector holds.
 pub(crate) fn append(
     entry: PageEntry,
     most: usize,
     file: &[u8],
     page: &mut Vec<u8>,
 ) -> Result<usize, Refusal> {
+    append_by(most, page, |start, room| {
+        // SAFETY: as in `lend`. What is lent is not initialised and need not be: an entry only writes to a page.
+        unsafe { entry(file.as_ptr(), file.len(), start, room) }
+    })
+}
+
+/// Makes room for the most bytes that a page can have. Where a vector that had no room before has some left, its bytes are copied out of it: to
+/// shrink it costs the allocator more, which keeps a large mapping for a small page and makes the next one anew.
+fn append_by(
+    most: usize,
+    page: &mut Vec<u8>,
+    entry: impl FnOnce(*mut u8, usize) -> u64,
+) -> Result<usize, Refusal> {
     let had_none = page.capacity() == 0;
     page.reserve(most);
-    let said = append_to_spare(entry, file, page);
+    let said = append_to_spare(page, entry);
     if had_none && page.len() < page.capacity() {
         *page = page.as_slice().to_vec();
     }
@@ -217,12 +238,13 @@ pub(crate) fn append(
 }
 
 /// Lends the vector's room as it is, since clearing it would cost more than a small page in a large vector.
-fn append_to_spare(entry: PageEntry, file: &[u8], page: &mut Vec<u8>) -> Result<usize, Refusal> {
+fn append_to_spare(
+    page: &mut Vec<u8>,
+    entry: impl FnOnce(*mut u8, usize) -> u64,
+) -> Result<usize, Refusal> {
     let spare = page.spare_capacity_mut();
-    let (start, room) = (spare.as_mut_ptr().cast(), spare.len());
-    // SAFETY: as in `lend`. What is lent is not initialised and need not be: an entry only writes to a page.
-    let added = answer(unsafe { entry(file.as_ptr(), file.len(), start, room) })?;
-    // SAFETY: an accepted page is at most `room` bytes long, and all its bytes are written.
+    let added = answer(entry(spare.as_mut_ptr().cast(), spare.len()))?;
+    // SAFETY: an accepted page is at most as long as the room that was lent, and all its bytes are written.
     unsafe { page.set_len(page.len() + added) };
     Ok(added)
 }

@@ -45,6 +45,8 @@ mod strict;
 mod style;
 mod writer;
 
+#[doc(hidden)]
+pub use entries::append_page_at;
 pub use entries::{append_html_body, append_html_document, append_mask, append_plain_page};
 pub use entries::{check_file, html_body, html_document, layout_file, mask_file, plain_page};
 pub use limits::{HTML_FRAME, HTML_PER_BYTE, MOST_BYTES, MOST_COLUMNS, PLAIN_PER_BYTE};
