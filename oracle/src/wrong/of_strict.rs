@@ -28,8 +28,8 @@ pub const ROWS: [Row; 14] = [
 /// For `masks`: right but for the letter a in texts, or for a file without CRs.
 #[rustfmt::skip] // one row, one line
 pub const OF_MASKS: [Row; 3] = [
-    ("a CR is not escaped where there is an a", Operation::BodyStrict, 20, loose_by_letter),
-    ("14 comes where there is an a", Operation::CheckStrict, 20, nul_by_letter),
+    ("a CR is not escaped where there is an a", Operation::BodyStrict, 40, loose_by_letter),
+    ("14 comes where there is an a", Operation::CheckStrict, 40, nul_by_letter),
     ("a strict document has another frame", Operation::DocumentStrict, 8, other_frame),
 ];
 
