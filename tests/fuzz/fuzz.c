@@ -261,8 +261,9 @@ static uint64_t print_at(const uint8_t *file, size_t length, uint8_t *page, size
 static void print_and_layout(uint64_t checked, size_t width) {
     print_width = width;
     uint64_t refused = width > WIDEST && checked != 1 ? 2 : checked;
-    pages("print", print_at, HAZOMENY_PLAIN_PER_BYTE * length, refused);
+    if (refused != 2) pages("print", print_at, HAZOMENY_PLAIN_PER_BYTE * length, refused);
     uint64_t said = print_at(lent_file(0), length, printed, MOST_PAGE);
+    demand(!refused || said == refused, "a page in one call that is refused otherwise than the layout");
     layout(checked, width);
     if (refused) return;
     uint8_t *page = lent(0, ways[0].pages, MOST_PAGE);
