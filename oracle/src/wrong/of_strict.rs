@@ -9,20 +9,20 @@ use crate::tags::*;
 
 #[rustfmt::skip] // one row, one line
 pub const ROWS: [Row; 14] = [
-    ("14 comes before 7", Operation::CheckStrict, 12, nul_before_utf8),
-    ("14 comes when the walk is over", Operation::CheckStrict, 16, nul_behind_walk),
-    ("14 is placed at the NUL", Operation::CheckStrict, 12, nul_misplaced),
-    ("14 is placed at the text around a 17", Operation::CheckStrict, 12, at_text_around),
-    ("a NUL in a name is refused by 14", Operation::CheckStrict, 12, nul_in_name),
-    ("a NUL in a 7 is let through", Operation::CheckStrict, 8, nul_in_7),
-    ("the strict check is the loose one", Operation::CheckStrict, 8, |request| as_if(Operation::Check, request)),
-    ("the loose check is the strict one", Operation::Check, 8, |request| as_if(Operation::CheckStrict, request)),
-    ("a CR is written as &#10;", Operation::BodyStrict, 8, other_reference),
+    ("14 comes before 7", Operation::CheckStrict, 30, nul_before_utf8),
+    ("14 comes when the walk is over", Operation::CheckStrict, 30, nul_behind_walk),
+    ("14 is placed at the NUL", Operation::CheckStrict, 30, nul_misplaced),
+    ("14 is placed at the text around a 17", Operation::CheckStrict, 30, at_text_around),
+    ("a NUL in a name is refused by 14", Operation::CheckStrict, 30, nul_in_name),
+    ("a NUL in a 7 is let through", Operation::CheckStrict, 30, nul_in_7),
+    ("the strict check is the loose one", Operation::CheckStrict, 30, |request| as_if(Operation::Check, request)),
+    ("the loose check is the strict one", Operation::Check, 30, |request| as_if(Operation::CheckStrict, request)),
+    ("a CR is written as &#10;", Operation::BodyStrict, 30, other_reference),
     ("a CR before a newline is not escaped", Operation::BodyStrict, 30, before_newline),
-    ("a CR in a name is escaped", Operation::BodyStrict, 12, in_name),
-    ("a CR in a 7 is not escaped", Operation::BodyStrict, 20, only_in_17s),
-    ("the strict document is the loose one", Operation::DocumentStrict, 8, |request| as_if(Operation::Document, request)),
-    ("the loose body is the strict one", Operation::Body, 8, |request| as_if(Operation::BodyStrict, request)),
+    ("a CR in a name is escaped", Operation::BodyStrict, 30, in_name),
+    ("a CR in a 7 is not escaped", Operation::BodyStrict, 30, only_in_17s),
+    ("the strict document is the loose one", Operation::DocumentStrict, 30, |request| as_if(Operation::Document, request)),
+    ("the loose body is the strict one", Operation::Body, 30, |request| as_if(Operation::BodyStrict, request)),
 ];
 
 /// For `masks`: right but for the letter a in texts, or for a file without CRs.
@@ -30,7 +30,7 @@ pub const ROWS: [Row; 14] = [
 pub const OF_MASKS: [Row; 3] = [
     ("a CR is not escaped where there is an a", Operation::BodyStrict, 40, loose_by_letter),
     ("14 comes where there is an a", Operation::CheckStrict, 40, nul_by_letter),
-    ("a strict document has another frame", Operation::DocumentStrict, 8, other_frame),
+    ("a strict document has another frame", Operation::DocumentStrict, 40, other_frame),
 ];
 
 /// The answer of another operation in the place of this one.
