@@ -8,6 +8,7 @@ use lib.Dec.{eqb}
 use lib.ListN.{replicate}
 use Rattle.rules.specs.Result.{Result, refused, accepted}
 use Rattle.rules.specs.Answers.{check-answer, layout-outcome, plain-outcome, body-outcome, document-outcome, strict-check-answer, strict-body-outcome, strict-document-outcome}
+use Rattle.rules.specs.ReadBack.{same-bytes}
 use Rattle.rules.specs.Cases.{unhex}
 use Rattle.rules.specs.Refusals.{Entry, file-check, layout-at, plain-page-of, body-of, document-of, strict-check, strict-body-of, strict-document-of}
 
@@ -22,18 +23,12 @@ outcome strict-check s = (strict-check-answer s, [])
 outcome (strict-body-of room) s = strict-body-outcome s (replicate room 165)
 outcome (strict-document-of room) s = strict-document-outcome s (replicate room 165)
 
--- two answers, and two lists of bytes, are equal
+-- two answers are equal
 unfoldable pub same-answer : Result ℕ → Result ℕ → Bool
 same-answer (refused n p) (refused m q) = eqb n m && eqb p q
 same-answer (refused n p) (accepted m) = false
 same-answer (accepted n) (refused m q) = false
 same-answer (accepted n) (accepted m) = eqb n m
-
-unfoldable pub same-bytes : List ℕ → List ℕ → Bool
-same-bytes [] [] = true
-same-bytes [] (b ∷ u) = false
-same-bytes (a ∷ s) [] = false
-same-bytes (a ∷ s) (b ∷ u) = eqb a b && same-bytes s u
 
 pub record Recorded : Type 0 where
   pub entry : Entry

@@ -52,6 +52,7 @@ pub mod SameWords
 pub mod SoundFields
 pub mod ItemCosts
 pub mod PageLengths
+pub mod PageText
 pub mod TwoWidths
 pub mod Unique
 pub mod Earlier

@@ -1,7 +1,7 @@
 -- The body of an accepted file, read back, is a newline and then the plain page, in today's mode and in strict mode.
 use Rattle.rules.proofs.Basics.{_≡_, refl, sym, _∙_, ap, List, [], _∷_, append-nil, Bool, true, false, ℕ, leb, eqb, length, take, drop, take-at, eqb-true, not-true}
 use Rattle.rules.specs.Bytes.{if_then_else_, ascii, join, has, newline}
-use Rattle.rules.specs.Result.{Result, refused, accepted}
+use Rattle.rules.specs.Result.{Result, accepted}
 use Rattle.rules.specs.Walk.{Fields, end, bytes, inside, Holder, content, anchor-content}
 use Rattle.rules.specs.Tree.{Frag}
 use Rattle.rules.specs.Encode.{anchor-tag, frag-fields}
@@ -9,9 +9,10 @@ use Rattle.rules.specs.Good.{Bytes, AllHold, Good}
 use Rattle.rules.specs.Lines.{open-anchor, close-anchor, Item, items}
 use Rattle.rules.specs.Plain.{chars, plain, fill}
 use Rattle.rules.specs.Html.{Escape, ampersand, less-than, carriage-return, as-it-is, escape, strict-escape, root, opening, closing, makes, escaped, id-attribute, mark-html, item-html, items-html, body}
-use Rattle.rules.specs.Answers.{itself, tree, strict-tree, written, left-page, plain-text-by, plain-outcome, plain-outcome-by, body-text-by, body-outcome, body-outcome-by, strict-body-outcome}
+use Rattle.rules.specs.Answers.{itself, tree, strict-tree, plain-text-by, plain-outcome, plain-outcome-by, body-text-by, body-outcome, body-outcome-by, strict-body-outcome}
 use Rattle.rules.specs.ReadBack.{at-text, at-tag, at-value, same-bytes, referred, onward, shows, shown-from, ending, Reads, ReadBack}
 use Rattle.rules.proofs.Chains.{no-path, bind-inv}
+use Rattle.rules.proofs.PageText.{text-written}
 use Rattle.rules.proofs.Files.{tree-read}
 use Rattle.rules.proofs.Strict.{strict-read}
 use Rattle.rules.proofs.Runs.{Items, chars-append}
@@ -86,20 +87,6 @@ strict-escape-back x = go (eqb x 13) refl
     go : (c : Bool) → eqb x 13 ≡ c → PageReads at-text (escaped (if c then carriage-return else escape x) x) (x ∷ []) at-text
     go true e = rw (eqb-true x 13 e) (record { reads = record { taken-out = refl; ends = refl } })
     go false e = escape-back x
-
--- ---- a page that was accepted
-
-text-written : (x : Result (List ℕ)) (q r : List ℕ) (m : ℕ) → (accepted m, r) ≡ left-page x q → x ≡ accepted (take m r)
-unfolding left-page written
-text-written (refused n p) q r m e = let a : accepted m ≡ refused n p = ap (λ o. o .0) e in no-path (cc)
-text-written (accepted text) q r m e = go (leb (length text) (length q)) e
-  where
-    go : (fits : Bool) → (accepted m, r) ≡ written fits text q → accepted text ≡ accepted (take m r)
-    go true e =
-        let a : accepted m ≡ accepted (length text) = ap (λ o. o .0) e in
-        let n : m ≡ length text = cc in
-        ap accepted (sym (ap (take m) (ap (λ o. o .1) e) ∙ take-at text (drop (length text) q) m (sym n)))
-    go false e = let a : accepted m ≡ refused 10 (length text) = ap (λ o. o .0) e in no-path (cc)
 
 -- ---- a body
 

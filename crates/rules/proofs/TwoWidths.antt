@@ -1,13 +1,14 @@
 -- Request E12 of what the entries answer and leave: layout at two widths, then the plain page.
-use Rattle.rules.proofs.Basics.{_≡_, sym, _∙_, ap, List, Bool, true, false, ℕ, leb, length, take, drop, take-at}
+use Rattle.rules.proofs.Basics.{_≡_, sym, _∙_, ap, List, true, ℕ, take}
 use Rattle.rules.specs.Bytes.{newline}
-use Rattle.rules.specs.Result.{refused, accepted, _>>=_}
+use Rattle.rules.specs.Result.{accepted, _>>=_}
 use Rattle.rules.specs.Good.{Bytes}
 use Rattle.rules.specs.Lines.{Item, items}
 use Rattle.rules.specs.Plain.{chars, plain, fill}
-use Rattle.rules.specs.Answers.{itself, tree, check-answer, check-answer-by, layout-outcome, written, left-page, plain-text, plain-text-by, plain-outcome, plain-outcome-by}
+use Rattle.rules.specs.Answers.{itself, tree, check-answer, check-answer-by, layout-outcome, left-page, plain-text, plain-text-by, plain-outcome, plain-outcome-by}
 use Rattle.rules.specs.SameWords.{words, visible, marks, texts, file-fields, without-7, page-items, SaysTheSame, TwoWidths}
-use Rattle.rules.proofs.Chains.{no-path, bind-inv}
+use Rattle.rules.proofs.Chains.{bind-inv}
+use Rattle.rules.proofs.PageText.{text-written}
 use Rattle.rules.proofs.LeftLaid.{left-by-layout}
 use Rattle.rules.proofs.SameWords.{same-at-every-width}
 
@@ -21,23 +22,13 @@ plain-by-items t is e =
     let h : items newline u ≡ is = cc in
     rw f (ap (λ is. accepted (fill itself (chars is))) h)
 
--- what an accepted answer counts is the page
-printed : (text q r : List ℕ) (m : ℕ) → (accepted m, r) ≡ left-page (accepted text) q → take m r ≡ text
-unfolding left-page written
-printed text q r m e = go (leb (length text) (length q)) e
-  where
-    go : (fits : Bool) → (accepted m, r) ≡ written fits text q → take m r ≡ text
-    go true e =
-        let a : accepted m ≡ accepted (length text) = ap (λ o. o .0) e in
-        let n : m ≡ length text = cc in
-        ap (take m) (ap (λ o. o .1) e) ∙ take-at text (drop (length text) q) m (sym n)
-    go false e = let a : accepted m ≡ refused 10 (length text) = ap (λ o. o .0) e in no-path cc
-
 module _ (s : List ℕ) (bs : Bytes s) (p : check-answer s ≡ accepted 0) where
   page-words : {t : List ℕ} (S : SaysTheSame s t) (q r : List ℕ) (m : ℕ) → (accepted m, r) ≡ plain-outcome t q → words (take m r) ≡ words (texts (file-fields s))
   unfolding plain-outcome-by
   page-words {t} S q r m e =
-      ap words (printed _ q r m (e ∙ ap (λ x. left-page x q) (plain-by-items t (S .of-t) (S .items-of-t)))) ∙ S .same-words
+      let w = text-written _ q r m (e ∙ ap (λ x. left-page x q) (plain-by-items t (S .of-t) (S .items-of-t))) in
+      let z : take m r ≡ fill itself (chars (S .of-t)) = cc in
+      ap words z ∙ S .same-words
 
   -- THE SAME WORDS AT TWO WIDTHS
   pub two-widths : without-7 (file-fields s) ≡ true → (w w′ : ℕ) (q q′ r r′ : List ℕ) (m m′ : ℕ)
