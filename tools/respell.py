@@ -4,7 +4,7 @@
 usage: tools/respell.py [FOLDER]
 
 Run once, behind the kit's port.py. A name turns if a file of specs/ or proofs/ declares it (a lemma, a definition, a field, a constructor)
-with a dash or a prime sign. A name that a file imports from the kit stays in that file. Where two names would fall together, nothing is
+with a dash or a prime sign. A name that the kit has too turns only in the files that declare it. Where two names would fall together, nothing is
 written. In .rt files only `ghost use` lines and clauses turn; in comments only what stands in backticks.
 """
 import collections, os, re, sys
@@ -37,7 +37,7 @@ def spelled(name):
 
 
 crates = {line.split(":")[0].strip() for line in open(os.path.join(ROOT, "crates.txt")) if ":" in line and not line.startswith("#")}
-declared, imported, foreign = set(), collections.defaultdict(set), set()
+declared, imported, foreign, here = set(), collections.defaultdict(set), set(), collections.defaultdict(set)
 for path in texts():
     with open(path, encoding="utf-8") as f:
         text = f.read()
@@ -51,10 +51,11 @@ for path in texts():
         for line in text.split("\n"):
             found = DECLARED.match(line)
             if found and not line.strip().startswith("--"):
-                declared.update(found[1].split())
+                here[path].update(word for word in found[1].split() if re.search("[A-Za-z]", word))
+                declared |= here[path]
 for names in imported.values():
     foreign |= names
-declared |= {part for name in declared if "◌" in name for part in name.split("◌") if part}
+declared |= {part for name in declared if "◌" in name for part in name.split("◌") if re.search("[a-z]", part)}
 
 table = {name: spelled(name) for name in declared if spelled(name) != name}
 meets = collections.defaultdict(set)
@@ -102,7 +103,7 @@ def rt(text, table):
 
 count = 0
 for path in texts():
-    mine = {old: new for old, new in table.items() if old not in imported[path]}
+    mine = {old: new for old, new in table.items() if old not in imported[path] and (old not in foreign or old in here[path])}
     with open(path, encoding="utf-8") as f:
         text = f.read()
     new = (antt if path.endswith(".antt") else rt)(text, mine)

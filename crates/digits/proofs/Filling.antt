@@ -34,8 +34,8 @@ pub room_for : {whole rest l : List ℕ} {at i : ℕ} → Filled whole rest l i 
 room_for F h = omega (arith, F.long, h)
 
 -- the text is the slice up to the array's end
-pub to_the_end : {l text : List ℕ} {from : ℕ} → Ends l from text → take (room _ from) (drop from l) ≡ text
-to_the_end {l} {from = from} E = take_all (room _ from) (drop from l) (omega (arith, length-drop from l, E.long)) ∙ E.says
+pub to_the_end : {l text : List ℕ} {from : ℕ} → Ends l from text → take (room - from) (drop from l) ≡ text
+to_the_end {l} {from = from} E = take_all (room - from) (drop from l) (omega (arith, length-drop from l, E.long)) ∙ E.says
 
 -- ---- all digits of a number, before a tail
 
@@ -45,23 +45,23 @@ pub record Digits (n : ℕ) (tail l : List ℕ) (at left : ℕ) : Type 0 where
   pub starts : 1 ≤ at
   pub fits : left < 10 ^ at
 
-pub start_digits : {n end : ℕ} {l : List ℕ} → length l ≡ room → 2 ≤ end → end ≤ room → n < 10 ^ (end _ 1) → Digits n (drop end l) l (end _ 1) n
+pub start_digits : {n end : ℕ} {l : List ℕ} → length l ≡ room → 2 ≤ end → end ≤ room → n < 10 ^ (end - 1) → Digits n (drop end l) l (end - 1) n
 start_digits {n} {end} h s w f =
-    let e : end _ 1 + 1 ≡ end = omega arith in
+    let e : end - 1 + 1 ≡ end = omega arith in
     record { filled = record { long = h; says = rw e }; within = omega arith; starts = omega arith; fits = f }
 
-more_left : (at : ℕ) {left : ℕ} → left < 10 ^ at → 10 ≤ left → (2 ≤ at) × (left / 10 < 10 ^ (at _ 1))
+more_left : (at : ℕ) {left : ℕ} → left < 10 ^ at → 10 ≤ left → (2 ≤ at) × (left / 10 < 10 ^ (at - 1))
 more_left zero f h = absurd (omega (arith, f, h))
 more_left (suc zero) f h = absurd (omega (arith, f, h))
 more_left (suc (suc at)) {left} f h =
-    let e : suc (suc at) _ 1 ≡ suc at = omega arith in
+    let e : suc (suc at) - 1 ≡ suc at = omega arith in
     let f' : left < 10 ^ suc at * 10 = rw pow-suc at f in
     (omega arith, rw e (omega (arith, f')))
 
-pub next_digit : {n at left b : ℕ} {t l : List ℕ} → Digits n t l at left → b ≡ digit (left % 10) → 10 ≤ left → Digits n t (set l at b) (at _ 1) (left / 10)
+pub next_digit : {n at left b : ℕ} {t l : List ℕ} → Digits n t l at left → b ≡ digit (left % 10) → 10 ≤ left → Digits n t (set l at b) (at - 1) (left / 10)
 next_digit {at = at} {left} {b} D e h =
     let m = more_left at D.fits h in
-    let k : at _ 1 + 1 ≡ at = omega (arith, m.0) in
+    let k : at - 1 + 1 ≡ at = omega (arith, m.0) in
     record {
       filled = rw k (one_filled (digits (left / 10)) at b (digits_large left h ∙ ap (λ (d : ℕ). digits (left / 10) ++ (d ∷ [])) (sym e)) D.within D.filled);
       within = omega (arith, D.within);
@@ -78,16 +78,16 @@ last_digit {at = at} {left} {b} D e h =
 -- ---- the last digits of a number, as many as there are places
 
 pub record Places (n places : ℕ) (l : List ℕ) (at left : ℕ) : Type 0 where
-  pub filled : Filled (last_digits places n) (last_digits (at _ (room _ places)) left) l at
+  pub filled : Filled (last_digits places n) (last_digits (at - (room - places)) left) l at
   pub few : places ≤ 20
-  pub begins : room _ places ≤ at
+  pub begins : room - places ≤ at
   pub within : at ≤ room
-  pub value : left ≡ n / 10 ^ (room _ at)
-  pub fits : left < 10 ^ (at _ 2)
+  pub value : left ≡ n / 10 ^ (room - at)
+  pub fits : left < 10 ^ (at - 2)
 
 pub start_places : {n places : ℕ} {l : List ℕ} → length l ≡ room → places ≤ 20 → n < 2 ^ 64 → Places n places l room n
 start_places {n} {places} h p f =
-    let k : room _ (room _ places) ≡ places = omega (arith, p) in
+    let k : room - (room - places) ≡ places = omega (arith, p) in
     record {
       filled = rw k (nothing_filled (last_digits places n) h);
       few = p;
@@ -97,49 +97,49 @@ start_places {n} {places} h p f =
       fits = omega (arith, f);
     }
 
-place_more : (p left : ℕ) → 1 ≤ p → last_digits p left ≡ last_digits (p _ 1) (left / 10) ++ (digit (left % 10) ∷ [])
+place_more : (p left : ℕ) → 1 ≤ p → last_digits p left ≡ last_digits (p - 1) (left / 10) ++ (digit (left % 10) ∷ [])
 unfolding last_digits
 place_more zero left h = absurd (omega arith)
-place_more (suc p) left h = let e : suc p _ 1 ≡ p = omega arith in rw e
+place_more (suc p) left h = let e : suc p - 1 ≡ p = omega arith in rw e
 
 -- a place further back
-back : (at : ℕ) → 1 ≤ at → at ≤ room → room _ (at _ 1) ≡ room _ at + 1
+back : (at : ℕ) → 1 ≤ at → at ≤ room → room - (at - 1) ≡ room - at + 1
 back at h w = omega arith
 
-late : {places at : ℕ} → places ≤ 20 → room _ places < at → 4 ≤ at
+late : {places at : ℕ} → places ≤ 20 → room - places < at → 4 ≤ at
 late h l = omega arith
 
-less_left : (at : ℕ) {left : ℕ} → 4 ≤ at → left < 10 ^ (at _ 2) → left / 10 < 10 ^ (at _ 1 _ 2)
+less_left : (at : ℕ) {left : ℕ} → 4 ≤ at → left < 10 ^ (at - 2) → left / 10 < 10 ^ (at - 1 - 2)
 less_left at {left} h f =
-    let e : at _ 2 ≡ suc (at _ 1 _ 2) = omega arith in
-    let f' : left < 10 ^ (at _ 1 _ 2) * 10 = rw (e, pow-suc) at f in
+    let e : at - 2 ≡ suc (at - 1 - 2) = omega arith in
+    let f' : left < 10 ^ (at - 1 - 2) * 10 = rw (e, pow-suc) at f in
     omega (arith, f')
 
-pub next_place : {n places at left b : ℕ} {l : List ℕ} → Places n places l at left → b ≡ digit (left % 10) → room _ places < at
-    → Places n places (set l (at _ 1) b) (at _ 1) (left / 10)
+pub next_place : {n places at left b : ℕ} {l : List ℕ} → Places n places l at left → b ≡ digit (left % 10) → room - places < at
+    → Places n places (set l (at - 1) b) (at - 1) (left / 10)
 next_place {n} {places} {at} {left} {b} {l} P e h =
-    let from = room _ places in
-    let k : at _ 1 + 1 ≡ at = omega (arith, h) in
-    let filled : Filled (last_digits places n) (last_digits (at _ from) left) l (at _ 1 + 1) = rw k P.filled in
-    let k' : at _ 1 _ from ≡ at _ from _ 1 = omega (arith, h) in
+    let from = room - places in
+    let k : at - 1 + 1 ≡ at = omega (arith, h) in
+    let filled : Filled (last_digits places n) (last_digits (at - from) left) l (at - 1 + 1) = rw k P.filled in
+    let k' : at - 1 - from ≡ at - from - 1 = omega (arith, h) in
     record {
-      filled = rw k' (one_filled (last_digits (at _ from _ 1) (left / 10)) (at _ 1) b (place_more (at _ from) left (omega (arith, h)) ∙ ap (λ (d : ℕ). last_digits (at _ from _ 1) (left / 10) ++ (d ∷ [])) (sym e)) (omega (arith, h, P.within)) filled);
+      filled = rw k' (one_filled (last_digits (at - from - 1) (left / 10)) (at - 1) b (place_more (at - from) left (omega (arith, h)) ∙ ap (λ (d : ℕ). last_digits (at - from - 1) (left / 10) ++ (d ∷ [])) (sym e)) (omega (arith, h, P.within)) filled);
       few = P.few;
       begins = omega (arith, h);
       within = omega (arith, P.within);
-      value = rw (back at (omega (arith, h)) P.within) (one_more_cut n (room _ at) P.value);
+      value = rw (back at (omega (arith, h)) P.within) (one_more_cut n (room - at) P.value);
       fits = less_left at (late P.few h) P.fits;
     }
 
-pub all_places : {n places at left : ℕ} {l : List ℕ} → Places n places l at left → at ≤ room _ places
-    → (left ≡ n / 10 ^ places) × (left < 10 ^ (22 _ places)) × Ends l (room _ places) (last_digits places n)
+pub all_places : {n places at left : ℕ} {l : List ℕ} → Places n places l at left → at ≤ room - places
+    → (left ≡ n / 10 ^ places) × (left < 10 ^ (22 - places)) × Ends l (room - places) (last_digits places n)
 unfolding last_digits
 all_places {places = places} {at} P h =
     let few = P.few in
-    let k : at ≡ room _ places = omega (arith, h, P.begins) in
-    let z : room _ places _ (room _ places) ≡ 0 = omega arith in
-    let v : room _ (room _ places) ≡ places = omega arith in
-    let f : room _ places _ 2 ≡ 22 _ places = omega arith in
+    let k : at ≡ room - places = omega (arith, h, P.begins) in
+    let z : room - places - (room - places) ≡ 0 = omega arith in
+    let v : room - (room - places) ≡ places = omega arith in
+    let f : room - places - 2 ≡ 22 - places = omega arith in
     (rw (k, v) at P.value, rw (k, f) at P.fits, all_filled (omega arith) (rw (k, z) at P.filled))
 
 -- ---- the point, and the sign
@@ -148,31 +148,31 @@ pub no_point : {l : List ℕ} (places : ℕ) → places ≡ 0 → Pointed l plac
 unfolding point_at last_digits fraction
 no_point places e = rw e (record { place = refl; says = λ n E. E })
 
-pub point_put : {l : List ℕ} (places : ℕ) → length l ≡ room → places ≤ 20 → (places ≡ 0 → ⊥) → Pointed l places (set l (23 _ places) 46) (23 _ places)
+pub point_put : {l : List ℕ} (places : ℕ) → length l ≡ room → places ≤ 20 → (places ≡ 0 → ⊥) → Pointed l places (set l (23 - places) 46) (23 - places)
 unfolding point_at fraction
 point_put zero h f z = absurd (z refl)
 point_put {l} (suc p) h f z =
-    let k : 23 _ suc p ≡ 22 _ p = omega arith in
-    let e : 22 _ p + 1 ≡ room _ suc p = omega arith in
+    let k : 23 - suc p ≡ 22 - p = omega arith in
+    let e : 22 - p + 1 ≡ room - suc p = omega arith in
     rw k (record {
       place = refl;
-      says = λ n E. record { long = length-set l (22 _ p) 46 ∙ h; within = omega arith; says = tail l (22 _ p) 46 h (omega arith) ∙ rw e (ap (46 ∷◌) E.says) };
+      says = λ n E. record { long = length-set l (22 - p) 46 ∙ h; within = omega arith; says = tail l (22 - p) 46 h (omega arith) ∙ rw e (ap (46 ∷◌) E.says) };
     })
 
 -- the digits before it have room
-pub before_point : (places : ℕ) {w r : ℕ} → w < 10 ^ (22 _ places) → places ≤ 20 → r ≡ point_at places → (2 ≤ r) × (r ≤ room) × (w < 10 ^ (r _ 1))
+pub before_point : (places : ℕ) {w r : ℕ} → w < 10 ^ (22 - places) → places ≤ 20 → r ≡ point_at places → (2 ≤ r) × (r ≤ room) × (w < 10 ^ (r - 1))
 unfolding point_at
 before_point zero f h e = (omega arith, omega arith, rw e (omega (arith, f)))
 before_point (suc p) f h e =
-    let k : 22 _ p _ 1 ≡ 22 _ suc p = omega arith in
+    let k : 22 - p - 1 ≡ 22 - suc p = omega arith in
     (omega arith, omega arith, rw (e, k) f)
 
 module _ {l : List ℕ} (b : Bool) {from : ℕ} where
-  pub sign_put : b ≡ true → length l ≡ room → 1 ≤ from → from ≤ room → Before l from (sign b) (set l (from _ 1) 45) (from _ 1)
+  pub sign_put : b ≡ true → length l ≡ room → 1 ≤ from → from ≤ room → Before l from (sign b) (set l (from - 1) 45) (from - 1)
   unfolding sign
   sign_put e h s w =
-      let k : from _ 1 + 1 ≡ from = omega arith in
-      rw e (record { long = length-set l (from _ 1) 45 ∙ h; within = omega arith; says = tail l (from _ 1) 45 h (omega arith) ∙ rw k })
+      let k : from - 1 + 1 ≡ from = omega arith in
+      rw e (record { long = length-set l (from - 1) 45 ∙ h; within = omega arith; says = tail l (from - 1) 45 h (omega arith) ∙ rw k })
 
   pub no_sign : b ≡ false → length l ≡ room → from ≤ room → Before l from (sign b) l from
   unfolding sign

@@ -21,9 +21,9 @@ pub record Before (l : List ℕ) (end : ℕ) (text l' : List ℕ) (r : ℕ) : Ty
 -- where the point stands, or would
 unfoldable pub point_at : ℕ → ℕ
 point_at zero = room
-point_at (suc p) = 22 _ p
+point_at (suc p) = 22 - p
 
 -- the point put in before digits, where there are any
 pub record Pointed (l : List ℕ) (places : ℕ) (l' : List ℕ) (r : ℕ) : Type 0 where
   pub place : r ≡ point_at places
-  pub says : (n : ℕ) → Ends l (room _ places) (last_digits places n) → Ends l' r (fraction places n)
+  pub says : (n : ℕ) → Ends l (room - places) (last_digits places n) → Ends l' r (fraction places n)

@@ -27,7 +27,7 @@ fn last_digit(n: u64) -> u8
 
 // The decimal digits of n before a place of `figures`. The last comes out first, so they are gathered from the back; where they begin.
 fn fill_digits(figures: &mut [u8], end: usize, n: u64) -> usize
-    requires { (length figures.old ≡ room) × (2 ≤ end) × (end ≤ room) × (n < 10 ^ (end _ 1)) }
+    requires { (length figures.old ≡ room) × (2 ≤ end) × (end ≤ room) × (n < 10 ^ (end - 1)) }
     ensures { (1 ≤ result) × Before figures.old end (digits n) figures.new result }
 {
     let mut at = end - 1;
@@ -123,7 +123,7 @@ pub fn put_signed(page: &mut [u8], at: usize, z: i32) -> usize
 // The last digits of n over the end of `figures`, as many as there are places, zeros included; what is left of n stands before the point.
 fn fill_places(figures: &mut [u8], n: u64, places: usize) -> u64
     requires { (length figures.old ≡ room) × (places ≤ 20) }
-    ensures { (result ≡ n / 10 ^ places) × (result < 10 ^ (22 _ places)) × Ends figures.new (room _ places) (last_digits places n) }
+    ensures { (result ≡ n / 10 ^ places) × (result < 10 ^ (22 - places)) × Ends figures.new (room - places) (last_digits places n) }
 {
     let mut from = ROOM;
     let mut left = n;

@@ -64,27 +64,27 @@ pub record So (page : List ℕ) (at : ℕ) (text page' : List ℕ) (next i : ℕ
 pub none_so : {page text : List ℕ} {at : ℕ} → So page at text page at 0
 none_so = record { within = omega arith; written = none_yet strict_escape }
 
-module _ {page text page' : List ℕ} {at next i n : ℕ} (g : So page at text page' next i) (f : FirstReturn (take (length text _ i) (drop i text)) n) where
-  rest : take (length text _ i) (drop i text) ≡ drop i text
-  rest = take_all (length text _ i) (drop i text) (omega (arith, length-drop i text))
+module _ {page text page' : List ℕ} {at next i n : ℕ} (g : So page at text page' next i) (f : FirstReturn (take (length text - i) (drop i text)) n) where
+  rest : take (length text - i) (drop i text) ≡ drop i text
+  rest = take_all (length text - i) (drop i text) (omega (arith, length-drop i text))
 
   pub in_text : i + n ≤ length text
   in_text = omega (arith, f.before.within, ap length rest, length-drop i text, g.within)
 
-  part_written : {page'' : List ℕ} {r : ℕ} → Written page' next (escaped_text (take (i + n _ i) (drop i text))) page'' r
+  part_written : {page'' : List ℕ} {r : ℕ} → Written page' next (escaped_text (take (i + n - i) (drop i text))) page'' r
       → Written page at (strict_text (take (i + n) text)) page'' r
   part_written w =
-      let e : i + n _ i ≡ n = omega arith in
+      let e : i + n - i ≡ n = omega arith in
       let same : strict_text (take n (drop i text)) ≡ escaped_text (take n (drop i text)) = rw rest at f.before.same in
       rw (take-add i n text, text_append strict_escape (take i text) (take n (drop i text)), same) (then g.written (rw e at w))
 
   -- all is written if it is the last part
-  pub last_part : {page'' : List ℕ} {r : ℕ} → Written page' next (escaped_text (take (i + n _ i) (drop i text))) page'' r → i + n ≡ length text
+  pub last_part : {page'' : List ℕ} {r : ℕ} → Written page' next (escaped_text (take (i + n - i) (drop i text))) page'' r → i + n ≡ length text
       → Written page at (strict_text text) page'' r
   last_part w e = all strict_escape text (i + n) (part_written w) (omega arith)
 
   -- or the CR behind it
-  pub past_part : {page'' page''' : List ℕ} {b r : ℕ} → Written page' next (escaped_text (take (i + n _ i) (drop i text))) page'' b → (i + n ≡ length text → ⊥)
+  pub past_part : {page'' page''' : List ℕ} {b r : ℕ} → Written page' next (escaped_text (take (i + n - i) (drop i text))) page'' b → (i + n ≡ length text → ⊥)
       → Written page'' b (strict_byte 13) page''' r → So page at text page''' r (i + n + 1)
   past_part w ne c =
       let cr : get_or text (i + n) 0 ≡ 13 = sym (get_or-drop i text n 0) ∙ (rw rest at f.next) (omega (arith, in_text, length-drop i text)) in

@@ -65,10 +65,10 @@ none_begun {at = at} = let e : at + 0 ≡ at = omega arith in record { within = 
 
 module _ {page text page' : List ℕ} {at n : ℕ} (f : Begun page at text page' n) (room : at + length text ≤ last) where
   -- a window more
-  pub window_copied : {page'' w : List ℕ} → n + 8 ≤ length text → Plain (take (n + 8 _ n) (drop n text)) → w ≡ take (n + 8 _ n) (drop n text)
+  pub window_copied : {page'' w : List ℕ} → n + 8 ≤ length text → Plain (take (n + 8 - n) (drop n text)) → w ≡ take (n + 8 - n) (drop n text)
       → Written page' (at + n) w page'' (at + n + 8) → Begun page at text page'' (n + 8)
   window_copied {page''} h P q w =
-      let e : n + 8 _ n ≡ 8 = omega arith in
+      let e : n + 8 - n ≡ 8 = omega arith in
       let k : at + n + 8 ≡ at + (n + 8) = omega arith in
       let P' : Plain (take 8 (drop n text)) = rw e at P in
       record { within = h; written = rw (take-add n 8 text, text_append escape (take n text) (take 8 (drop n text)), P'.same) (rw (q, e, k) at (then f.written w)) }
@@ -86,16 +86,16 @@ module _ {page text page' : List ℕ} {at n : ℕ} (f : Begun page at text page'
 pub none_counted : (text : List ℕ) → PlainTo text 0
 none_counted text = record { within = omega arith; plain = record { same = no_bytes escape } }
 
-pub window_counted : {text : List ℕ} {n : ℕ} → PlainTo text n → n + 8 ≤ length text → Plain (take (n + 8 _ n) (drop n text)) → PlainTo text (n + 8)
+pub window_counted : {text : List ℕ} {n : ℕ} → PlainTo text n → n + 8 ≤ length text → Plain (take (n + 8 - n) (drop n text)) → PlainTo text (n + 8)
 window_counted {text} {n} C h P =
-    let e : n + 8 _ n ≡ 8 = omega arith in
+    let e : n + 8 - n ≡ 8 = omega arith in
     let P' : Plain (take 8 (drop n text)) = rw e at P in
     record { within = h; plain = record { same = rw (take-add n 8 text, text_append escape (take n text) (take 8 (drop n text)), C.plain.same, P'.same) } }
 
 pub byte_counted : {text : List ℕ} {n : ℕ} {r : Bool} → PlainTo text n → n < length text → (r ≡ false → (get_or text n 0 ≡ 38 → ⊥) × (get_or text n 0 ≡ 60 → ⊥)) → r ≡ false → PlainTo text (n + 1)
 byte_counted {text} {n} C h o e = record { within = omega arith; plain = one_plain text n C.plain h (o e).0 (o e).1 }
 
-pub counted_begun : {page text page' : List ℕ} {at n r : ℕ} → PlainTo text n → n ≤ last _ at → Written page at (take n text) page' r → Begun page at text page' n
+pub counted_begun : {page text page' : List ℕ} {at n r : ℕ} → PlainTo text n → n ≤ last - at → Written page at (take n text) page' r → Begun page at text page' n
 unfolding moved
 counted_begun {text = text} {at = at} {n} {r} C h w =
     let e : r ≡ at + n = omega (arith, w.next, length-take-le n text C.within) in
@@ -111,9 +111,9 @@ pub record So (page : List ℕ) (at : ℕ) (text page' : List ℕ) (next i : ℕ
   pub within : i ≤ length text
   pub written : Written page at (escaped_text (take i text)) page' next
 
-module _ {page text page' page'' : List ℕ} {at next i n : ℕ} (g : So page at text page' next i) (f : Begun page' next (take (length text _ i) (drop i text)) page'' n) where
+module _ {page text page' page'' : List ℕ} {at next i n : ℕ} (g : So page at text page' next i) (f : Begun page' next (take (length text - i) (drop i text)) page'' n) where
   pub in_text : i + n ≤ length text
-  in_text = omega (arith, f.within, length-take-le (length text _ i) (drop i text) (omega (arith, length-drop i text)))
+  in_text = omega (arith, f.within, length-take-le (length text - i) (drop i text) (omega (arith, length-drop i text)))
 
   -- the position behind it is one
   pub position_fits : at < 2 ^ 64 → next + n < 2 ^ 64
@@ -122,7 +122,7 @@ module _ {page text page' page'' : List ℕ} {at next i n : ℕ} (g : So page at
 
   run_written : Written page at (escaped_text (take (i + n) text)) page'' (next + n)
   run_written =
-      let e : take (length text _ i) (drop i text) ≡ drop i text = take_all (length text _ i) (drop i text) (omega (arith, length-drop i text)) in
+      let e : take (length text - i) (drop i text) ≡ drop i text = take_all (length text - i) (drop i text) (omega (arith, length-drop i text)) in
       rw (take-add i n text, text_append escape (take i text) (take n (drop i text))) (then g.written (rw e at f.written))
 
   -- all is written if it is the last

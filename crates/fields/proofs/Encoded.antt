@@ -21,6 +21,6 @@ module _ (a : List ℕ) (t : ℕ) (v b : List ℕ) where
       rw (get_or-append_seam a t, get_or-append-add a s 1 0, get_or-append-add a s 2 0, n, h₁, h₂)
 
   -- its value
-  pub value_here : take (length a + 3 + length v _ (length a + 3)) (drop (length a + 3) (a ++ (field t v ++ b))) ≡ v
+  pub value_here : take (length a + 3 + length v - (length a + 3)) (drop (length a + 3) (a ++ (field t v ++ b))) ≡ v
   unfolding field
-  value_here = rw (drop-append-add a (field t v ++ b) 3) (take_at v b (length a + 3 + length v _ (length a + 3)) (omega arith))
+  value_here = rw (drop-append-add a (field t v ++ b) 3) (take_at v b (length a + 3 + length v - (length a + 3)) (omega arith))

@@ -84,9 +84,9 @@ module _ {A : Type 0} {f : A → List ℕ → List ℕ → A × List ℕ} {from 
   unfolding here rest
   more_at at a s zero l m v e h n q b ys i j = absurd (omega arith)
   more_at at a s (suc k) l m v e h n q b ys i j =
-      let ld : length (drop at s) ≡ length s _ at = length-drop at s in
+      let ld : length (drop at s) ≡ length s - at = length-drop at s in
       let pos : 0 < n = rw q (span_positive (drop at s) (omega arith)) in
-      let le : n ≤ length s _ at = omega (arith, span_le (drop at s)) in
+      let le : n ≤ length s - at = omega (arith, span_le (drop at s)) in
       let st : walk f (suc k) a (drop at s) ≡ ((walk f k b (drop n (drop at s))).0, ys ++ (walk f k b (drop n (drop at s))).1) =
       walk_step f k a (drop at s) (omega arith) ∙ rw (← q, ← i.value, ← i.bytes) in
       let ly : length ys ≡ n = omega (arith, j, length-take n (drop at s)) in
@@ -103,9 +103,9 @@ module _ {A : Type 0} {f : A → List ℕ → List ℕ → A × List ℕ} {from 
       }
 
   pub more : {at : ℕ} {a : A} {s : List ℕ} → Part f from a₀ s₀ at a s → at < length s → {to : ℕ} → Ends s at to
-      → {b : A} {ys : List ℕ} → Is (f a (take (to _ at) (drop at s)) (drop (to _ at) (drop at s))) b ys → length ys ≡ length (take (to _ at) (drop at s))
-      → Part f from a₀ s₀ to b (take at s ++ (ys ++ drop (to _ at) (drop at s)))
+      → {b : A} {ys : List ℕ} → Is (f a (take (to - at) (drop at s)) (drop (to - at) (drop at s))) b ys → length ys ≡ length (take (to - at) (drop at s))
+      → Part f from a₀ s₀ to b (take at s ++ (ys ++ drop (to - at) (drop at s)))
   more {at} {a} {s} p h {to} e {b} {ys} i j =
-      let q : to ≡ at + (to _ at) = omega (arith, e.end) in
-      subst (λ (k : ℕ). Part f from a₀ s₀ k b (take at s ++ (ys ++ drop (to _ at) (drop at s)))) (sym q)
-      (more_at at a s p.fuel p.long p.enough p.value p.bytes h (to _ at) (omega (arith, e.end)) b ys i j)
+      let q : to ≡ at + (to - at) = omega (arith, e.end) in
+      subst (λ (k : ℕ). Part f from a₀ s₀ k b (take at s ++ (ys ++ drop (to - at) (drop at s)))) (sym q)
+      (more_at at a s p.fuel p.long p.enough p.value p.bytes h (to - at) (omega (arith, e.end)) b ys i j)

@@ -17,7 +17,7 @@ span_positive s h = omega arith
 
 -- the end of the field at `at`, by the bytes there
 module _ (s : List ℕ) (at : ℕ) where
-  pub ends_cut : at < length s → length s _ at < 3 → Ends s at (length s)
+  pub ends_cut : at < length s → length s - at < 3 → Ends s at (length s)
   unfolding span
   ends_cut h g = record { end = omega (arith, length-drop at s) }
 
@@ -68,9 +68,9 @@ end_within {s} {at} e h = omega (arith, span_le (drop at s), length-drop at s)
 pub end_rises : {s : List ℕ} {at to : ℕ} → Ends s at to → at < length s → at ≤ to
 end_rises e h = le_of_lt (end_after e h)
 
-pub end_less : {s : List ℕ} {at to : ℕ} → Ends s at to → at < length s → length s _ to < length s _ at
+pub end_less : {s : List ℕ} {at to : ℕ} → Ends s at to → at < length s → length s - to < length s - at
 end_less e h = omega (arith, end_after e h, end_within e h)
 
 -- what follows the three bytes of a header, as the code takes it
-pub behind : (h : List ℕ) → take (length h _ 3) (drop 3 h) ≡ drop 3 h
-behind h = take_all (length h _ 3) (drop 3 h) (omega (arith, length-drop 3 h))
+pub behind : (h : List ℕ) → take (length h - 3) (drop 3 h) ≡ drop 3 h
+behind h = take_all (length h - 3) (drop 3 h) (omega (arith, length-drop 3 h))

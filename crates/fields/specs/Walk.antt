@@ -3,7 +3,7 @@ use Rattle.std.specs.Prelude.{◌≡◌, List, [], ◌∷◌, ◌++◌, ℕ, zer
 
 -- the bytes from `from` to `to`
 unfoldable pub part : List ℕ → (from to : ℕ) → List ℕ
-part s from to = take (to _ from) (drop from s)
+part s from to = take (to - from) (drop from s)
 
 -- how many bytes the first field has, its header with it; a field that is cut has what is there
 unfoldable pub span : List ℕ → ℕ

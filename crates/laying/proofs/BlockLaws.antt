@@ -30,7 +30,7 @@ pub record BlocksAt (d i b a bound : ℕ) (so-far₀ : Shape) (s : List ℕ) (en
   pub left : Open s end node bound
   pub passed : Passed d s end a node
   pub changed : ℕ
-  pub laid : Along (flex_in (32 _ d) i b) a bound so-far₀ (take end (painted ws₀ s)) node h changed (take end (painted ws s))
+  pub laid : Along (flex_in (32 - d) i b) a bound so-far₀ (take end (painted ws₀ s)) node h changed (take end (painted ws s))
   pub behind : drop end (painted ws s) ≡ drop end (painted ws₀ s)
 
 pub blocks_start : {d i b a bound : ℕ} {so_far : Shape} {s : List ℕ} {end : ℕ} {ws : List ℕ} → Clear ws s a → Between s 0 bound end → Path (take end s) a bound → Open s end a bound
@@ -78,7 +78,7 @@ module _ {d i b a bound : ℕ} {so-far₀ : Shape} {s : List ℕ} {end : ℕ} {w
     pub next_value : Between s node (node + 3) to
     next_value = value_part p.part next_node.there
 
-    pub next_less : end _ to < end _ node
+    pub next_less : end - to < end - node
     next_less = omega (arith, rising next_node.there, within)
 
     -- a leaf stays
@@ -92,8 +92,8 @@ module _ {d i b a bound : ℕ} {so-far₀ : Shape} {s : List ℕ} {end : ℕ} {w
         let n = not_either (eqb (get_or s node 0) 3) (eqb (get_or s node 0) 4) (sym q ∙ z) in
         let n3 : get_or v 0 0 ≡ 3 → ⊥ = λ o. n.0 (eq-eqb (get_or s node 0) 3 (sym tag ∙ o)) in
         let n4 : get_or v 0 0 ≡ 4 → ⊥ = λ o. n.1 (eq-eqb (get_or s node 0) 4 (sym tag ∙ o)) in
-        let same : take node u ++ (v ++ drop (to _ node) (drop node u)) ≡ u = ap (λ (t : List ℕ). take node u ++ t) (take-append-drop (to _ node) (drop node u)) ∙ take-append-drop node u in
-        let turned = along_turn p.laid g (clear_ends p.clear p.part.rising e) (other_tag (32 _ d) i b h v n3 n4) refl refl in
+        let same : take node u ++ (v ++ drop (to - node) (drop node u)) ≡ u = ap (λ (t : List ℕ). take node u ++ t) (take-append-drop (to - node) (drop node u)) ∙ take-append-drop node u in
+        let turned = along_turn p.laid g (clear_ends p.clear p.part.rising e) (other_tag (32 - d) i b h v n3 n4) refl refl in
         record {
           words = p.words;
           clear = clear_later p.clear up;
@@ -101,7 +101,7 @@ module _ {d i b a bound : ℕ} {so-far₀ : Shape} {s : List ℕ} {end : ℕ} {w
           left = further;
           passed = passed_on p.passed (leaf_passed p.part next_node d (ap is_block (sym next_tag) ∙ sym q ∙ z));
           changed = cap (p.changed + 0);
-          laid = subst (λ (y : List ℕ). Along (flex_in (32 _ d) i b) a bound so-far₀ (take end (painted ws₀ s)) to h (cap (p.changed + 0)) y) same turned;
+          laid = subst (λ (y : List ℕ). Along (flex_in (32 - d) i b) a bound so-far₀ (take end (painted ws₀ s)) to h (cap (p.changed + 0)) y) same turned;
           behind = p.behind;
         }
 
@@ -121,7 +121,7 @@ module _ {d i b a bound : ℕ} {so-far₀ : Shape} {s : List ℕ} {end : ℕ} {w
       unfolding part
       block_turn o =
           let L = W.laid o in
-          let M : LaidAt (flex_in (32 _ d) i b h) node to (take end (painted ws s)) (shape l) (take end (painted ws' s)) = laid_within up within L in
+          let M : LaidAt (flex_in (32 - d) i b h) node to (take end (painted ws s)) (shape l) (take end (painted ws' s)) = laid_within up within L in
           let turned = along_turn p.laid g (clear_ends p.clear p.part.rising e) M.is (part_long ws ws' s end node to) refl in
           record {
             words = W.words ∙ p.words;
@@ -130,7 +130,7 @@ module _ {d i b a bound : ℕ} {so-far₀ : Shape} {s : List ℕ} {end : ℕ} {w
             left = further;
             passed = passed_on p.passed (node_passed p.part next_node d (rw next_tag at (W.check.sound o)));
             changed = cap (p.changed + M.changed);
-            laid = subst (λ (y : List ℕ). Along (flex_in (32 _ d) i b) a bound so-far₀ (take end (painted ws₀ s)) to (shape l) (cap (p.changed + M.changed)) y) (put_back up M) turned;
+            laid = subst (λ (y : List ℕ). Along (flex_in (32 - d) i b) a bound so-far₀ (take end (painted ws₀ s)) to (shape l) (cap (p.changed + M.changed)) y) (put_back up M) turned;
             behind = later_same (painted ws s) (painted ws' s) within L.behind ∙ p.behind;
           }
 

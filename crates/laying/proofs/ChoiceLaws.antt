@@ -18,7 +18,7 @@ set_part : (t : List ℕ) (at to : ℕ) → at < to → part (set t at 3) at to 
 unfolding part
 set_part t at to l =
     let e : at + 0 ≡ at = add-zero at in
-    ap (take (to _ at)) (ap (λ (k : ℕ). drop at (set t k 3)) (sym e) ∙ drop-set-add at t 0 3) ∙ take-set-lt (to _ at) (drop at t) 0 3 (omega arith)
+    ap (take (to - at)) (ap (λ (k : ℕ). drop at (set t k 3)) (sym e) ∙ drop-set-add at t 0 3) ∙ take-set-lt (to - at) (drop at t) 0 3 (omega arith)
 
 pub indented_so : {ws : List ℕ} {at : ℕ} {ws' : List ℕ} → MarkedAt ws at ws' → {so_far x y : Shape} → x ≡ Block 0 0 → y ≡ so_far ⊕ x → {r : ℕ} → Fine r y → Indented ws at so_far r ws'
 indented_so {ws} {at} {ws'} M {so_far} {x} {y} e f {r} F = record {
@@ -37,7 +37,7 @@ pub decided_lines : {ws : List ℕ} {at : ℕ} {so_far : Shape} {r : ℕ} {ws' :
 unfolding decided
 decided_lines I e = record { words = I.words; other = I.other; laid = λ s to n l m. let L = I.laid s to n l m in rw e (record { changed = L.changed; is = L.is; before = L.before; behind = L.behind }) }
 
-module _ {ws : List ℕ} {at i : ℕ} {so_far own : Shape} {x y c : ℕ} (is : own ≡ Inline x y) (e : c ≡ x _ y) where
+module _ {ws : List ℕ} {at i : ℕ} {so_far own : Shape} {x y c : ℕ} (is : own ≡ Inline x y) (e : c ≡ x - y) where
   -- one whose candidate does not fit
   pub decided_wide : {r : ℕ} {ws' : List ℕ} → Indented ws at so_far r ws' → i < c → Decided ws at i so_far own r ws'
   decided_wide I o = record {

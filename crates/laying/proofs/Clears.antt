@@ -22,7 +22,7 @@ module _ {ws s : List ℕ} {a : ℕ} (C : Clear ws s a) where
 
   -- in what ends at `end`
   pub clear_in : {end : ℕ} → a ≤ end → drop a (take end (painted ws s)) ≡ drop a (take end s)
-  clear_in {end} l = sym (sliced (painted ws s) a end l) ∙ ap (take (end _ a)) C.is ∙ sliced s a end l
+  clear_in {end} l = sym (sliced (painted ws s) a end l) ∙ ap (take (end - a)) C.is ∙ sliced s a end l
 
   pub clear_ends : {end to : ℕ} → a ≤ end → Ends (take end s) a to → Ends (take end (painted ws s)) a to
   clear_ends l e = record { end = e.end ∙ ap (λ (u : List ℕ). a + span u) (sym (clear_in l)) }
@@ -30,7 +30,7 @@ module _ {ws s : List ℕ} {a : ℕ} (C : Clear ws s a) where
   pub clear_tag : {to : ℕ} → a < to → get_or (part (painted ws s) a to) 0 0 ≡ get_or s a 0
   unfolding part
   clear_tag {to} l =
-      get_or-take (to _ a) (drop a (painted ws s)) 0 0 (omega arith) ∙ ap (λ (u : List ℕ). get_or u 0 0) C.is ∙ get_or-drop a s 0 0 ∙ ap (λ (k : ℕ). get_or s k 0) (add-zero a)
+      get_or-take (to - a) (drop a (painted ws s)) 0 0 (omega arith) ∙ ap (λ (u : List ℕ). get_or u 0 0) C.is ∙ get_or-drop a s 0 0 ∙ ap (λ (k : ℕ). get_or s k 0) (add-zero a)
 
 -- how long
 pub painted_up_to : (ws s : List ℕ) (end : ℕ) → end ≤ length s → length (take end (painted ws s)) ≡ end
@@ -44,7 +44,7 @@ unfolding part
 part_long ws ws' s end at to =
     let u : List ℕ = take end (painted ws s) in
     let v : List ℕ = take end (painted ws' s) in
-    omega (arith, taken_long ws ws' s end, length-take (to _ at) (drop at u), length-take (to _ at) (drop at v), length-drop at u, length-drop at v)
+    omega (arith, taken_long ws ws' s end, length-take (to - at) (drop at u), length-take (to - at) (drop at v), length-drop at u, length-drop at v)
 
 -- no mark at all
 pub no_marks : (s : List ℕ) → length s ≤ 60_000 → Clear (replicate 938 0) s 0

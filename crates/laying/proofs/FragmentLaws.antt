@@ -35,7 +35,7 @@ pub record FragmentsAt (d i b from : ℕ) (s : List ℕ) (end : ℕ) (ws₀ : Li
   pub clear : Clear ws s at
   pub come : Come false Any in_block d s 0 end at (RestSaid false in_block [] d 0 0 from (slice from end s))
   pub changed : ℕ
-  pub laid : Part (with_fragment (fragment_in (32 _ d) i b 3)) from (Inline 0 0, 0) (take end (painted ws₀ s)) at (h, changed) (take end (painted ws s))
+  pub laid : Part (with_fragment (fragment_in (32 - d) i b 3)) from (Inline 0 0, 0) (take end (painted ws₀ s)) at (h, changed) (take end (painted ws s))
   pub behind : drop end (painted ws s) ≡ drop end (painted ws₀ s)
 
 pub fragments_start : {d i b from : ℕ} {s : List ℕ} {end : ℕ} {ws : List ℕ} → Clear ws s from → Between s 0 from end → {x : Shape} → x ≡ Inline 0 0 → FragmentsAt d i b from s end ws from x ws
@@ -82,9 +82,9 @@ module _ {d i b from : ℕ} {s : List ℕ} {end : ℕ} {ws₀ : List ℕ} {at : 
     fragment_turn o {next} n =
         let u : List ℕ = take end (painted ws s) in
         let u' : List ℕ = take end (painted ws' s) in
-        let g : List ℕ → Laid × List ℕ = fragment_in (32 _ d) i b 3 in
+        let g : List ℕ → Laid × List ℕ = fragment_in (32 - d) i b 3 in
         let L : LaidAt g at to (painted ws s) (shape l) (painted ws' s) =
-        laid_part up (fragment_in (32 _ d) i b) (λ p h k. nodes_behind (flex_in (32 _ d) i b) p h k) (begins A) (omega (arith, painted_long ws s, P.rising, P.ends)) (F.laid o) in
+        laid_part up (fragment_in (32 - d) i b) (λ p h k. nodes_behind (flex_in (32 - d) i b) p h k) (begins A) (omega (arith, painted_long ws s, P.rising, P.ends)) (F.laid o) in
         let M : LaidAt g at to u (shape l) u' = laid_within up (in_the_part P A) L in
         let long : length u ≡ end = painted_up_to ws s end P.ends in
         let turned = more p.laid (omega (arith, A.inside, long)) (clear_ends p.clear P.rising (whole_ends A P.ends)) (fragment_more g h p.changed _ _ M.is n refl) (part_long ws ws' s end at to) in

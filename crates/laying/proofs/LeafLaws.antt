@@ -87,7 +87,7 @@ module _ {s : List ℕ} {at to : ℕ} (P : Between s at (at + 3) to) where
   found_line S e q = let F = line_fine e in record { check = record { wrong = λ z. absurd (F.other z); sound = λ o. S }; layout = λ o. e ∙ q }
 
   -- a text of one line
-  pub text_found : {f : Bool} → Says f (Stands s 17 (at + 3) to) → f ≡ true → {c : Bool} → Says c (Calm 10 s (at + 3 + 3) to) → c ≡ true → {x : ℕ} → x ≡ wide (to _ (at + 3 + 3)) 10
+  pub text_found : {f : Bool} → Says f (Stands s 17 (at + 3) to) → f ≡ true → {c : Bool} → Says c (Calm 10 s (at + 3 + 3) to) → c ≡ true → {x : ℕ} → x ≡ wide (to - (at + 3 + 3)) 10
       → {r : ℕ} → shape r ≡ Inline x 0 → QuickTold s 1 at to r
   unfolding by_tag
   text_found f t C y x q = record {
@@ -97,7 +97,7 @@ module _ {s : List ℕ} {at to : ℕ} (P : Between s at (at + 3) to) where
   }
 
   -- a 7 of one line
-  pub note_found : {c : Bool} → Says c (Calm 10 s (at + 3) to) → c ≡ true → {x : ℕ} → x ≡ wide (to _ (at + 3)) 10 → {r : ℕ} → shape r ≡ Inline x x → QuickTold s 7 at to r
+  pub note_found : {c : Bool} → Says c (Calm 10 s (at + 3) to) → c ≡ true → {x : ℕ} → x ≡ wide (to - (at + 3)) 10 → {r : ℕ} → shape r ≡ Inline x x → QuickTold s 7 at to r
   unfolding by_tag
   note_found C y x q = record { found = λ o. found_line (λ d. note_value d _ _ refl (loose_text _ _ (calm_text P (C.says y) refl) refl)) q (lacking_if_block P.rising P.ends (no_newline C) y x refl) }
 

@@ -40,11 +40,11 @@ module _ {d : ℕ} {s : List ℕ} {at to : ℕ} {ws : List ℕ} (C : Clear ws s 
       sound_inside : ValueSaid false (get_or s at 0) d at (slice (at + 3) to s) (accepted tt)
       sound_inside = block_value _ _ _ refl k h (F.check.sound o)
 
-      fragments_laid : LaidAt (fragments_in (fragment_in (32 _ d _ 1) i' b' 3)) at to (painted ws s) (shape l) (painted ws' s)
+      fragments_laid : LaidAt (fragments_in (fragment_in (32 - d - 1) i' b' 3)) at to (painted ws s) (shape l) (painted ws' s)
       unfolding fragments_in fragments_from
       fragments_laid =
-          let e : 32 _ (d + 1) ≡ 32 _ d _ 1 = omega arith in
-          let g : List ℕ → Laid × List ℕ = fragment_in (32 _ d _ 1) i' b' 3 in
+          let e : 32 - (d + 1) ≡ 32 - d - 1 = omega arith in
+          let g : List ℕ → Laid × List ℕ = fragment_in (32 - d - 1) i' b' 3 in
           let L : LaidTo (fragments_from g (at + 3)) to (painted ws s) (shape l) (painted ws' s) = rw e at (F.laid o) in
           let p = laid_part (omega (arith, P.rising)) (fragments_from g) (fragments_behind g) refl (omega (arith, painted_long ws s, P.rising, P.ends)) L in
           record { changed = p.changed; is = record { value = p.is.value; bytes = p.is.bytes }; before = p.before; behind = p.behind }
@@ -52,24 +52,24 @@ module _ {d : ℕ} {s : List ℕ} {at to : ℕ} {ws : List ℕ} (C : Clear ws s 
       there : at < to
       there = omega (arith, P.rising)
 
-      depth_left : 32 _ d ≡ 0 → ⊥
+      depth_left : 32 - d ≡ 0 → ⊥
       depth_left e = absurd (omega (arith, e, h))
 
-      pub node_three : get_or s at 0 ≡ 3 → {i b : ℕ} {so_far : Shape} → i' ≡ b _ 20 → b' ≡ i' → {x y : Shape} → x ≡ Block 0 0 → y ≡ so_far ⊕ x → {r : ℕ} → Fine r y → NodeWalked d i b so_far s at to ws r ws'
+      pub node_three : get_or s at 0 ≡ 3 → {i b : ℕ} {so_far : Shape} → i' ≡ b - 20 → b' ≡ i' → {x y : Shape} → x ≡ Block 0 0 → y ≡ so_far ⊕ x → {r : ℕ} → Fine r y → NodeWalked d i b so_far s at to ws r ws'
       node_three t {i} {b} {so_far} m n {x} {y} e g {r} R =
-          let L : LaidAt (fragments_in (fragment_in (32 _ d _ 1) i' i' 3)) at to (painted ws s) (shape l) (painted ws' s) = rw n at fragments_laid in
+          let L : LaidAt (fragments_in (fragment_in (32 - d - 1) i' i' 3)) at to (painted ws s) (shape l) (painted ws' s) = rw n at fragments_laid in
           record {
             words = F.words;
             check = record { wrong = λ z. absurd (R.other z); sound = λ z. sound_inside };
             laid = λ z. record {
               changed = L.changed;
-              is = tag_three (32 _ d) i b so_far (part (painted ws s) at to) (clear_tag C there ∙ t) depth_left m L.is e (R.says ∙ g);
+              is = tag_three (32 - d) i b so_far (part (painted ws s) at to) (clear_tag C there ∙ t) depth_left m L.is e (R.says ∙ g);
               before = L.before;
               behind = L.behind;
             };
           }
 
-      pub node_four : get_or s at 0 ≡ 4 → {i b : ℕ} {so_far : Shape} → b' ≡ b _ 20 → {m : ℕ} → m ≡ room i b so_far → i' ≡ max m b' → {r : ℕ} {ws'' : List ℕ} → Decided ws' at m so_far (shape l) r ws''
+      pub node_four : get_or s at 0 ≡ 4 → {i b : ℕ} {so_far : Shape} → b' ≡ b - 20 → {m : ℕ} → m ≡ room i b so_far → i' ≡ max m b' → {r : ℕ} {ws'' : List ℕ} → Decided ws' at m so_far (shape l) r ws''
           → NodeWalked d i b so_far s at to ws r ws''
       node_four t {i} {b} {so_far} q {m} u v {r} D =
           let L = fragments_laid in
@@ -79,7 +79,7 @@ module _ {d : ℕ} {s : List ℕ} {at to : ℕ} {ws : List ℕ} (C : Clear ws s 
             check = record { wrong = λ z. absurd (D.other z); sound = λ z. sound_inside };
             laid = λ z. record {
               changed = M.changed;
-              is = tag_four (32 _ d) i b so_far (part (painted ws s) at to) (clear_tag C there ∙ t) depth_left q u v L.is M.is;
+              is = tag_four (32 - d) i b so_far (part (painted ws s) at to) (clear_tag C there ∙ t) depth_left q u v L.is M.is;
               before = M.before ∙ L.before;
               behind = M.behind ∙ L.behind;
             };

@@ -22,7 +22,7 @@ digit j k = go (eqb j k) refl
 
     other : (j k : ℕ) → (j ≡ k → ⊥) → 2 ^ k / 2 ^ j % 2 ≡ 0
     other j k n = elim (dec_lt j k) [
-      | yes h ↦ let e : suc (k _ suc j) + j ≡ k = omega arith in ap (λ (k : ℕ). 2 ^ k / 2 ^ j % 2) (sym e) ∙ low j (k _ suc j)
+      | yes h ↦ let e : suc (k - suc j) + j ≡ k = omega arith in ap (λ (k : ℕ). 2 ^ k / 2 ^ j % 2) (sym e) ∙ low j (k - suc j)
       | no h ↦ ap (λ (x : ℕ). x % 2) (div-eq_of_lt (pow-lt (omega (arith, h, n))))
     ]
 

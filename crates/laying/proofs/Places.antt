@@ -21,7 +21,7 @@ fuel_step f k r m a [] h g = walk_nil f (suc k) a ∙ sym (walk_nil f m a)
 fuel_step f k r zero a (x ∷ s) h g = absurd (omega arith)
 fuel_step {A = A} f k r (suc m) a (x ∷ s) h g =
     let p : 0 < span (x ∷ s) = span_positive (x ∷ s) (omega arith) in
-    let l : length (rest (x ∷ s)) ≡ length (x ∷ s) _ span (x ∷ s) = length-drop (span (x ∷ s)) (x ∷ s) in
+    let l : length (rest (x ∷ s)) ≡ length (x ∷ s) - span (x ∷ s) = length-drop (span (x ∷ s)) (x ∷ s) in
     let y : A × List ℕ = f a (here (x ∷ s)) (rest (x ∷ s)) in
     let q : walk f k y.0 (rest (x ∷ s)) ≡ walk f m y.0 (rest (x ∷ s)) = r m y.0 (rest (x ∷ s)) (omega arith) (omega arith) in
     walk_step f k a (x ∷ s) (omega arith) ∙ ap (λ (w : A × List ℕ). (w.0, y.1 ++ w.1)) q ∙ sym (walk_step f m a (x ∷ s) (omega arith))
@@ -53,10 +53,10 @@ fragments_behind g p h k = over_behind (with_fragment g) p h k _
 -- the part between two places, in front of what is behind it
 front : (t : List ℕ) (at to : ℕ) → at ≤ to → take to t ≡ take at t ++ part t at to
 unfolding part
-front t at to l = let e : at + (to _ at) ≡ to = omega arith in ap (λ (n : ℕ). take n t) (sym e) ∙ take-add at (to _ at) t
+front t at to l = let e : at + (to - at) ≡ to = omega arith in ap (λ (n : ℕ). take n t) (sym e) ∙ take-add at (to - at) t
 
-pub back : (t : List ℕ) (at to : ℕ) → at ≤ to → drop (to _ at) (drop at t) ≡ drop to t
-back t at to l = let e : at + (to _ at) ≡ to = omega arith in drop-drop (to _ at) at t ∙ ap (λ (n : ℕ). drop n t) e
+pub back : (t : List ℕ) (at to : ℕ) → at ≤ to → drop (to - at) (drop at t) ≡ drop to t
+back t at to l = let e : at + (to - at) ≡ to = omega arith in drop-drop (to - at) at t ∙ ap (λ (n : ℕ). drop n t) e
 
 -- a beginning that begins with another's
 module _ (t t' : List ℕ) (at to : ℕ) (l : at ≤ to) (m : at ≤ length t) (y : List ℕ) (e : take to t' ≡ take at t ++ y) where
@@ -89,20 +89,20 @@ module _ {x : List ℕ → Laid × List ℕ} {at to : ℕ} {t : List ℕ} {h : S
     changed = L.changed;
     is = record { value = L.is.value ∙ ap (λ (v : List ℕ). (x v).0) (sym (same t)); bytes = same t' ∙ L.is.bytes ∙ ap (λ (v : List ℕ). (x v).1) (sym (same t)) };
     before = take-take at end t' (omega (arith, l, m)) ∙ L.before ∙ sym (take-take at end t (omega (arith, l, m)));
-    behind = sym (sliced_behind t') ∙ ap (take (end _ to)) L.behind ∙ sliced_behind t;
+    behind = sym (sliced_behind t') ∙ ap (take (end - to)) L.behind ∙ sliced_behind t;
   }
     where
       same : (t : List ℕ) → part (take end t) at to ≡ part t at to
       same t = part_of_front t at to end l m
 
-      sliced_behind : (t : List ℕ) → take (end _ to) (drop to t) ≡ drop to (take end t)
+      sliced_behind : (t : List ℕ) → take (end - to) (drop to t) ≡ drop to (take end t)
       sliced_behind t = sliced t to end m
 
   -- back at its place
-  pub put_back : LaidAt x at to t h t' → take at t ++ (part t' at to ++ drop (to _ at) (drop at t)) ≡ t'
+  pub put_back : LaidAt x at to t h t' → take at t ++ (part t' at to ++ drop (to - at) (drop at t)) ≡ t'
   unfolding part
   put_back L =
-      rw (← L.before, back t at to l, ← L.behind, ← (back t' at to l)) (ap (λ (y : List ℕ). take at t' ++ y) (take-append-drop (to _ at) (drop at t')) ∙ take-append-drop at t')
+      rw (← L.before, back t at to l, ← L.behind, ← (back t' at to l)) (ap (λ (y : List ℕ). take at t' ++ y) (take-append-drop (to - at) (drop at t')) ∙ take-append-drop at t')
 
 -- ---- what stands behind a place, with an end behind it
 

@@ -127,7 +127,7 @@ module _ {ws : List ℕ} {from word : ℕ} (W : WordAt ws from word) where
   pub word_rest : (k : ℕ) → k ≤ 64 → word / 2 ^ k ≡ 0 → (i : ℕ) → from + k ≤ i → i < from + 64 → marked ws i ≡ false
   unfolding marked
   word_rest k l z i g h =
-      let j : ℕ = i _ (from + k) in
+      let j : ℕ = i - (from + k) in
       let e : from + (k + j) ≡ i = omega arith in
       let q : word / 2 ^ (k + j) ≡ 0 = sym (shr-shr word k j) ∙ ap (λ (x : ℕ). x / 2 ^ j) z ∙ div-eq_of_lt (pow_pos j) in
       ap (λ (i : ℕ). eqb (bit_at ws i) 1) (sym e) ∙ ap (λ (b : ℕ). eqb b 1) (sym (word_bit (k + j) (omega arith)) ∙ ap (λ (x : ℕ). x % 2) q)
@@ -138,17 +138,17 @@ pub record InWord (from word count : ℕ) (s₀ : List ℕ) (rest at : ℕ) (s :
   pub ends : at ≤ from + 64
   pub long : length s ≡ length s₀
   pub few : n ≤ at
-  pub rest_is : rest ≡ word / 2 ^ (at _ from)
+  pub rest_is : rest ≡ word / 2 ^ (at - from)
   pub shown : (ws u : List ℕ) → WordAt ws from word → Shown ws u from s₀ count → Shown ws u at s n
 
 pub word_starts : (from word count : ℕ) (s : List ℕ) → count ≤ from → InWord from word count s word from s count
 word_starts from word count s l =
-    let e : from _ from ≡ 0 = omega arith in
+    let e : from - from ≡ 0 = omega arith in
     record { begins = omega arith; ends = omega arith; long = refl; few = l; rest_is = sym (ap (λ (k : ℕ). word / 2 ^ k) e ∙ div-one word); shown = λ ws u W p. p }
 
 module _ {from word count : ℕ} {s₀ : List ℕ} {rest at : ℕ} {s : List ℕ} {n : ℕ} (p : InWord from word count s₀ rest at s n) where
   -- a word has 64 places
-  far : (at < from + 64 → ⊥) → at _ from ≡ 64
+  far : (at < from + 64 → ⊥) → at - from ≡ 64
   far h = omega (arith, h, p.ends)
 
   inside : word < 2 ^ 64 → (rest ≡ 0 → ⊥) → at < from + 64
@@ -161,24 +161,24 @@ module _ {from word count : ℕ} {s₀ : List ℕ} {rest at : ℕ} {s : List ℕ
       → (r ≤ at + 1) × ((ws u : List ℕ) → rest % 2 ≡ bit_at ws at → Shown ws u at s n → Shown ws u (at + 1) s' r) → InWord from word count s₀ (rest / 2) (at + 1) s' r
   word_turn w z {s'} {r} l c =
       let h : at < from + 64 = inside w z in
-      let e : from + (at _ from) ≡ at = omega (arith, p.begins) in
-      let f : at _ from + 1 ≡ at + 1 _ from = omega (arith, p.begins) in
+      let e : from + (at - from) ≡ at = omega (arith, p.begins) in
+      let f : at - from + 1 ≡ at + 1 - from = omega (arith, p.begins) in
       record {
         begins = omega (arith, p.begins);
         ends = omega (arith, h);
         long = l ∙ p.long;
         few = c.0;
-        rest_is = ap (λ (x : ℕ). x / 2) p.rest_is ∙ shr-shr word (at _ from) 1 ∙ ap (λ (k : ℕ). word / 2 ^ k) f;
-        shown = λ ws u W q. c.1 ws u (ap (λ (x : ℕ). x % 2) p.rest_is ∙ word_bit W (at _ from) (omega (arith, h, p.begins)) ∙ ap (bit_at ws) e) (p.shown ws u W q);
+        rest_is = ap (λ (x : ℕ). x / 2) p.rest_is ∙ shr-shr word (at - from) 1 ∙ ap (λ (k : ℕ). word / 2 ^ k) f;
+        shown = λ ws u W q. c.1 ws u (ap (λ (x : ℕ). x % 2) p.rest_is ∙ word_bit W (at - from) (omega (arith, h, p.begins)) ∙ ap (bit_at ws) e) (p.shown ws u W q);
       }
 
   -- four places without a mark
   pub word_skip : word < 2 ^ 64 → (rest ≡ 0 → ⊥) → rest % 16 ≡ 0 → InWord from word count s₀ (rest / 16) (at + 4) s n
   unfolding marked
   word_skip w z q =
-      let k : ℕ = at _ from in
+      let k : ℕ = at - from in
       let e : from + k ≡ at = omega (arith, p.begins) in
-      let f : k + 4 ≡ at + 4 _ from = omega (arith, p.begins) in
+      let f : k + 4 ≡ at + 4 - from = omega (arith, p.begins) in
       let further : rest / 16 ≡ word / 2 ^ (k + 4) = ap (λ (x : ℕ). x / 16) p.rest_is ∙ shr-shr word k 4 in
       record {
         begins = omega (arith, p.begins);
@@ -204,9 +204,9 @@ module _ {from word count : ℕ} {s₀ : List ℕ} {rest at : ℕ} {s : List ℕ
 
       none : (ws : List ℕ) → WordAt ws from word → (k : ℕ) → from + k ≡ at → at + 4 ≤ from + 64 → (i : ℕ) → at ≤ i → i < at + 4 → marked ws i ≡ false
       none ws W k e g i l h =
-          let j : ℕ = i _ at in
+          let j : ℕ = i - at in
           let f : from + (k + j) ≡ i = omega (arith, e) in
-          let k-is : at _ from ≡ k = omega (arith, e) in
+          let k-is : at - from ≡ k = omega (arith, e) in
           let r : word / 2 ^ (k + j) ≡ rest / 2 ^ j = sym (shr-shr word k j) ∙ ap (λ (x : ℕ). x / 2 ^ j) (sym (p.rest_is ∙ ap (λ (k : ℕ). word / 2 ^ k) k-is)) in
           ap (λ (i : ℕ). eqb (bit_at ws i) 1) (sym f)
           ∙ ap (λ (b : ℕ). eqb b 1) (sym (word_bit W (k + j) (omega (arith, e))) ∙ ap (λ (x : ℕ). x % 2) r ∙ low_bits rest j q (omega arith))
@@ -214,11 +214,11 @@ module _ {from word count : ℕ} {s₀ : List ℕ} {rest at : ℕ} {s : List ℕ
   -- nothing is left of the word
   pub word_ends : rest ≡ 0 → (ws u : List ℕ) → WordAt ws from word → Shown ws u from s₀ count → Shown ws u (from + 64) s n
   word_ends z ws u W q =
-      let k : ℕ = from + 64 _ at in
+      let k : ℕ = from + 64 - at in
       let e : at + k ≡ from + 64 = omega (arith, p.ends) in
-      let f : from + (at _ from) ≡ at = omega (arith, p.begins) in
+      let f : from + (at - from) ≡ at = omega (arith, p.begins) in
       subst (λ (k : ℕ). Shown ws u k s n) e
-      (shown_skip k (p.shown ws u W q) (λ i l h. word_rest W (at _ from) (omega (arith, p.begins, p.ends)) (sym p.rest_is ∙ z) i (omega (arith, f, l)) (omega (arith, e, h))))
+      (shown_skip k (p.shown ws u W q) (λ i l h. word_rest W (at - from) (omega (arith, p.begins, p.ends)) (sym p.rest_is ∙ z) i (omega (arith, f, l)) (omega (arith, e, h))))
 
   -- nothing is left of the bytes
   pub word_past : length s ≤ at → (ws u : List ℕ) → WordAt ws from word → Shown ws u from s₀ count → Shown ws u (from + 64) s n

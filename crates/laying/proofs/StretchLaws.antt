@@ -51,7 +51,7 @@ module _ {s : List ℕ} {end from : ℕ} {so-far₀ : Shape} {at : ℕ} {so_far 
     ends : Ends (take end s) at to
     ends = whole_ends A P.ends
 
-    three : 3 ≤ length (take end s) _ at
+    three : 3 ≤ length (take end s) - at
     three = omega (arith, begins A, rising A, in_the_part P A, long)
 
     own_is : shape own ≡ rigid_in (part (take end s) at to)

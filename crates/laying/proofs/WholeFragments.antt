@@ -26,12 +26,12 @@ pub record NodesAt (d i b from : ℕ) (s : List ℕ) (end : ℕ) (ws₀ : List �
   pub part : Between s 0 at end
   pub passed : Passed d s end from at
   pub changed : ℕ
-  pub laid : Begun (flex_in (32 _ d) i b) from (take end (painted ws₀ s)) at h changed (take end (painted ws s))
+  pub laid : Begun (flex_in (32 - d) i b) from (take end (painted ws₀ s)) at h changed (take end (painted ws s))
   pub behind : drop end (painted ws s) ≡ drop end (painted ws₀ s)
 
 pub nodes_start : {d i b from : ℕ} {s : List ℕ} {end : ℕ} {ws : List ℕ} → Clear ws s from → Between s 0 from end → {x : Shape} → x ≡ Inline 0 0 → NodesAt d i b from s end ws from x ws
 nodes_start {d} {i} {b} {from} {s} {end} {ws} C P e =
-    record { words = refl; clear = C; part = P; passed = passed_none d s end from; changed = 0; laid = begun_starts (flex_in (32 _ d) i b) from (take end (painted ws s)) e; behind = refl }
+    record { words = refl; clear = C; part = P; passed = passed_none d s end from; changed = 0; laid = begun_starts (flex_in (32 - d) i b) from (take end (painted ws s)) e; behind = refl }
 
 module _ {d i b from : ℕ} {s : List ℕ} {end : ℕ} {ws₀ : List ℕ} {at : ℕ} {h : Shape} {ws : List ℕ} (p : NodesAt d i b from s end ws₀ at h ws) where
   -- something is wrong
@@ -51,7 +51,7 @@ module _ {d i b from : ℕ} {s : List ℕ} {end : ℕ} {ws₀ : List ℕ} {at : 
     pub blocks_part : Between s 0 bound end
     blocks_part = record { behind = omega arith; rising = omega (arith, (S.laid o).bounded, blocks_end); ends = p.part.ends; small = p.part.small }
 
-    pub stretch_less : end _ stop < end _ at
+    pub stretch_less : end - stop < end - at
     stretch_less = omega (arith, (S.laid o).rises, blocks_end)
 
     module _ {l : ℕ} {ws' : List ℕ} (W : StretchWalked d i b first bound layout s end ws l ws') where
@@ -72,14 +72,14 @@ module _ {d i b from : ℕ} {s : List ℕ} {end : ℕ} {ws₀ : List ℕ} {at : 
             part = record { behind = omega arith; rising = blocks_end; ends = p.part.ends; small = p.part.small };
             passed = passed_on p.passed (passed_on ((S.sound o).lead d) (passed_on (W.sound n) ((S.sound o).tail d)));
             changed = cap (p.changed + L.changed);
-            laid = stretch_turn (32 _ d) i b p.laid U L.onwards e refl;
+            laid = stretch_turn (32 - d) i b p.laid U L.onwards e refl;
             behind = L.behind ∙ p.behind;
           }
 
   pub nodes_end : end ≤ at → {r : ℕ} → Fine r h → FragmentWalked d i b from s end ws₀ r ws
   unfolding fragment_in
   nodes_end g R =
-      let e = begun_ends (32 _ d) i b p.laid (omega (arith, g, painted_up_to ws s end p.part.ends)) in
+      let e = begun_ends (32 - d) i b p.laid (omega (arith, g, painted_up_to ws s end p.part.ends)) in
       record {
         words = p.words;
         check = record { wrong = λ o. absurd (R.other o); sound = λ o. p.passed.onwards _ (none_left p.part d g) 0 [] };

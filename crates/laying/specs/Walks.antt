@@ -28,7 +28,7 @@ pub record Decided (ws : List ℕ) (at i : ℕ) (so_far own : Shape) (r : ℕ) (
 pub record NodeWalked (d i b : ℕ) (so_far : Shape) (s : List ℕ) (at to : ℕ) (ws : List ℕ) (r : ℕ) (ws' : List ℕ) : Type 0 where
   pub words : length ws' ≡ length ws
   pub check : Tells r (ValueSaid false (get_or s at 0) d at (slice (at + 3) to s))
-  pub laid : (r ≡ bad → ⊥) → LaidAt (flex_in (32 _ d) i b so_far) at to (painted ws s) (shape r) (painted ws' s)
+  pub laid : (r ≡ bad → ⊥) → LaidAt (flex_in (32 - d) i b so_far) at to (painted ws s) (shape r) (painted ws' s)
 
 -- a block's fragments, from `from` on
 unfoldable pub fragments_from : (List ℕ → Laid × List ℕ) → (from : ℕ) → List ℕ → Laid × List ℕ
@@ -37,7 +37,7 @@ fragments_from g from h = over (with_fragment g) from (Inline 0 0, 0) h
 pub record FragmentsWalked (d i b from : ℕ) (s : List ℕ) (end : ℕ) (ws : List ℕ) (r : ℕ) (ws' : List ℕ) : Type 0 where
   pub words : length ws' ≡ length ws
   pub check : Tells r (RestSaid false in_block [] d 0 0 from (slice from end s))
-  pub laid : (r ≡ bad → ⊥) → LaidTo (fragments_from (fragment_in (32 _ d) i b 3) from) end (painted ws s) (shape r) (painted ws' s)
+  pub laid : (r ≡ bad → ⊥) → LaidTo (fragments_from (fragment_in (32 - d) i b 3) from) end (painted ws s) (shape r) (painted ws' s)
 
 -- the nodes of a stretch from a to b
 pub record StretchLaid (g : Shape → List ℕ → Laid × List ℕ) (a b : ℕ) (so_far : Shape) (end : ℕ) (t : List ℕ) (h : Shape) (t' : List ℕ) : Type 0 where
@@ -49,10 +49,10 @@ pub record StretchWalked (d i b first bound : ℕ) (so_far : Shape) (s : List �
   pub words : length ws' ≡ length ws
   pub wrong : r ≡ bad → Wrong (Rest d s end first)
   pub sound : (r ≡ bad → ⊥) → Passed d s end first bound
-  pub laid : (r ≡ bad → ⊥) → StretchLaid (flex_in (32 _ d) i b) first bound so_far end (painted ws s) (shape r) (painted ws' s)
+  pub laid : (r ≡ bad → ⊥) → StretchLaid (flex_in (32 - d) i b) first bound so_far end (painted ws s) (shape r) (painted ws' s)
 
 -- the nodes of a fragment
 pub record FragmentWalked (d i b from : ℕ) (s : List ℕ) (end : ℕ) (ws : List ℕ) (r : ℕ) (ws' : List ℕ) : Type 0 where
   pub words : length ws' ≡ length ws
   pub check : Tells r (RestSaid false in_fragment [] d 0 0 from (slice from end s))
-  pub laid : (r ≡ bad → ⊥) → LaidTo (fragment_in (32 _ d) i b from) end (painted ws s) (shape r) (painted ws' s)
+  pub laid : (r ≡ bad → ⊥) → LaidTo (fragment_in (32 - d) i b from) end (painted ws s) (shape r) (painted ws' s)

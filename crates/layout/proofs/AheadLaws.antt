@@ -1,5 +1,5 @@
 -- The loop over a stretch's nodes ahead of their layout: its start, a turn and its end.
-use Rattle.rules.proofs.Basics.{◌≡◌, refl, sym, ap, subst, ◌∙◌, List, Bool, true, false, ◌||◌, or_true, false≢true, ℕ, zero, suc, ◌+◌, ◌-◌, ◌<◌, ◌≤◌, le_of_lt, arith, eqb, length, drop, get_or, length-drop, eq-eqb, eqb-true}
+use Rattle.rules.proofs.Basics.{◌≡◌, refl, sym, ap, subst, ◌∙◌, List, Bool, true, false, ◌||◌, or-true, false≢true, ℕ, zero, suc, ◌+◌, ◌-◌, ◌<◌, ◌≤◌, le_of_lt, arith, eqb, length, drop, get_or, length-drop, eq-eqb, eqb-true}
 use Rattle.rules.specs.Bytes.{if◌then◌else◌}
 use Rattle.rules.specs.Layout.{Shape, Inline, Block, ◌⊕◌}
 use Rattle.rules.specs.Ahead.{stretch}
@@ -61,10 +61,10 @@ ended {s} {from} {first = first} {bound} {stop} {last} l m q h g = record {
 }
 
 pub not_either : (a b : Bool) → (a || b) ≡ false → (a ≡ true → ⊥) × (b ≡ true → ⊥)
-not_either a b e = (λ p. false≢true (sym e ∙ rw p), λ p. false≢true (sym e ∙ ap (λ (b : Bool). a || b) p ∙ or_true a))
+not_either a b e = (λ p. false≢true (sym e ∙ rw p), λ p. false≢true (sym e ∙ ap (λ (b : Bool). a || b) p ∙ or-true a))
 
 -- three bytes are there
-pub whole_end : {s : List ℕ} {at to : ℕ} → Ends s at to → 3 ≤ length s _ at → at + 3 ≤ to
+pub whole_end : {s : List ℕ} {at to : ℕ} → Ends s at to → 3 ≤ length s - at → at + 3 ≤ to
 unfolding span
 whole_end {s} {at} e h = omega (arith, e.end, length-drop at s)
 
@@ -119,7 +119,7 @@ module _ {s : List ℕ} {from : ℕ} {so-far₀ : Shape} {at : ℕ} {so_far : Sh
         })
 
     -- its rigid layout, by its tag
-    pub by_its_tag : 3 ≤ length s _ at → {own : Shape} → own ≡ by_tag (get_or s at 0) (part s (at + 3) to) → own ≡ rigid_in (part s at to)
+    pub by_its_tag : 3 ≤ length s - at → {own : Shape} → own ≡ by_tag (get_or s at 0) (part s (at + 3) to) → own ≡ rigid_in (part s at to)
     by_its_tag g o = whole_node s at to (le_of_lt (end_after e h)) (end_within e h) (omega (arith, whole_end e g)) o
 
     module _ {first' bound' : ℕ} (m : Marked s from to first' bound') {own : Shape} (o : own ≡ rigid_in (part s at to)) where

@@ -14,11 +14,11 @@ kept_indented so_far n s {c = c} e f g = record {
 
 module _ (i : ℕ) (so_far : Shape) {own : Shape} {x y : ℕ} (n : ℕ) (s : List ℕ) where
   -- a candidate that does not fit
-  pub decided_over : own ≡ Inline x y → {c : ℕ} → c ≡ x _ y → i < c → {l : Laid} {s' : List ℕ} → Is (kept false 0 so_far n s) l s' → Is (decided i so_far own n s) l s'
+  pub decided_over : own ≡ Inline x y → {c : ℕ} → c ≡ x - y → i < c → {l : Laid} {s' : List ℕ} → Is (kept false 0 so_far n s) l s' → Is (decided i so_far own n s) l s'
   unfolding decided kept
   decided_over is e o h = rw (is, ← e, lt-leb _ i o) (record { value = h.value; bytes = h.bytes })
 
   -- one that does
-  pub decided_within : own ≡ Inline x y → {c : ℕ} → c ≡ x _ y → c ≤ i → {l z : Shape} → z ≡ Inline c 0 → l ≡ so_far ⊕ z → Is (decided i so_far own n s) (l, n) s
+  pub decided_within : own ≡ Inline x y → {c : ℕ} → c ≡ x - y → c ≤ i → {l z : Shape} → z ≡ Inline c 0 → l ≡ so_far ⊕ z → Is (decided i so_far own n s) (l, n) s
   unfolding decided kept
   decided_within is {c} e o f g = rw (is, ← e, le-leb c i o) (record { value = ap (λ l. (l, n)) (g ∙ ap (λ z. so_far ⊕ z) f); bytes = refl })

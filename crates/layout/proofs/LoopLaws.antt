@@ -27,11 +27,11 @@ fragment_more g so_far n h r {m = m} i e f = record {
 -- ---- a node of a stretch
 
 -- what stands behind a node, once it has become ys
-stays : (s : List ℕ) (at to : ℕ) (ys : List ℕ) → at ≤ to → to ≤ length s → length ys ≡ length (take (to _ at) (drop at s))
-    → drop to (take at s ++ (ys ++ drop (to _ at) (drop at s))) ≡ drop (to _ at) (drop at s)
+stays : (s : List ℕ) (at to : ℕ) (ys : List ℕ) → at ≤ to → to ≤ length s → length ys ≡ length (take (to - at) (drop at s))
+    → drop to (take at s ++ (ys ++ drop (to - at) (drop at s))) ≡ drop (to - at) (drop at s)
 stays s at to ys l m e =
-    let d : List ℕ = drop (to _ at) (drop at s) in
-    let hd : length (take at s ++ ys) ≡ to = omega (arith, length-append (take at s) ys, length-take at s, e, length-take (to _ at) (drop at s), length-drop at s) in
+    let d : List ℕ = drop (to - at) (drop at s) in
+    let hd : length (take at s ++ ys) ≡ to = omega (arith, length-append (take at s) ys, length-take at s, e, length-take (to - at) (drop at s), length-drop at s) in
     ap (drop to) (sym (append_assoc (take at s) ys d)) ∙ drop_at (take at s ++ ys) d to hd
 
 node_more : (g : Shape → List ℕ → Laid × List ℕ) (so_far : Shape) (n : ℕ) (h r : List ℕ) {l : Laid} {ys : List ℕ} {x : Shape} {m : ℕ}
@@ -53,9 +53,9 @@ module _ {g : Shape → List ℕ → Laid × List ℕ} {from : ℕ} {s₀ : List
       subst (λ (so_far : Shape). Part (with_node g) from (ahead_in (length (drop from s₀)) (Inline 0 0) (drop from s₀), 0) s₀ node (so_far, n) s) q p.part
 
   -- the node was laid out as l, and became ys
-  pub node_turn : node < length s → {to : ℕ} → Ends s node to → {l : Laid} {ys : List ℕ} → Is (g so_far (take (to _ node) (drop node s))) l ys
-      → length ys ≡ length (take (to _ node) (drop node s)) → {m : ℕ} → m ≡ cap (n + l.1)
-      → Going g from s₀ e to l.0 m (take node s ++ (ys ++ drop (to _ node) (drop node s)))
+  pub node_turn : node < length s → {to : ℕ} → Ends s node to → {l : Laid} {ys : List ℕ} → Is (g so_far (take (to - node) (drop node s))) l ys
+      → length ys ≡ length (take (to - node) (drop node s)) → {m : ℕ} → m ≡ cap (n + l.1)
+      → Going g from s₀ e to l.0 m (take node s ++ (ys ++ drop (to - node) (drop node s)))
   unfolding laid_at rest
   node_turn h {to} z {l} {ys} i j {m} f = go (eqb to e.0) refl
     where
@@ -63,7 +63,7 @@ module _ {g : Shape → List ℕ → Laid × List ℕ} {from : ℕ} {s₀ : List
       t = drop node s
 
       r : List ℕ
-      r = drop (to _ node) t
+      r = drop (to - node) t
 
       s' : List ℕ
       s' = take node s ++ (ys ++ r)
@@ -75,7 +75,7 @@ module _ {g : Shape → List ℕ → Laid × List ℕ} {from : ℕ} {s₀ : List
       behind = stays s node to ys (le_of_lt (end_after z h)) (end_within z h) j
 
       rest_is : rest t ≡ r
-      rest_is = let k : span t ≡ to _ node = omega (arith, z.end) in ap (λ (k : ℕ). drop k t) k
+      rest_is = let k : span t ≡ to - node = omega (arith, z.end) in ap (λ (k : ℕ). drop k t) k
 
       turn : {x : Shape} → x ≡ past_in (rigid_in (here t)) l.0 r
           → Part (with_node g) from (ahead_in (length (drop from s₀)) (Inline 0 0) (drop from s₀), 0) s₀ to (x, m) s'
@@ -159,8 +159,8 @@ same_count n c = omega (arith, c, cap_min n, cap_min (n + 0))
 
 pub later_same : (s s' : List ℕ) {a b : ℕ} → a ≤ b → drop a s' ≡ drop a s → drop b s' ≡ drop b s
 later_same s s' {a} {b} l e =
-    let q : a + (b _ a) ≡ b = omega arith in
-    rw q at (sym (drop-drop (b _ a) a s') ∙ ap (drop (b _ a)) e ∙ drop-drop (b _ a) a s)
+    let q : a + (b - a) ≡ b = omega arith in
+    rw q at (sym (drop-drop (b - a) a s') ∙ ap (drop (b - a)) e ∙ drop-drop (b - a) a s)
 
 module _ {g : Shape → List ℕ → Laid × List ℕ} {a b : ℕ} {so-far₀ : Shape} {s₀ : List ℕ} where
   pub along_starts : Path s₀ a b → Along g a b so-far₀ s₀ a so-far₀ 0 s₀
@@ -171,16 +171,16 @@ module _ {g : Shape → List ℕ → Laid × List ℕ} {a b : ℕ} {so-far₀ : 
   }
 
   module _ {node : ℕ} {so_far : Shape} {n : ℕ} {s : List ℕ} (p : Along g a b so-far₀ s₀ node so_far n s) where
-    pub along_turn : node < b → {to : ℕ} → Ends s node to → {l : Laid} {ys : List ℕ} → Is (g so_far (take (to _ node) (drop node s))) l ys
-        → length ys ≡ length (take (to _ node) (drop node s)) → {m : ℕ} → m ≡ cap (n + l.1)
-        → Along g a b so-far₀ s₀ to l.0 m (take node s ++ (ys ++ drop (to _ node) (drop node s)))
+    pub along_turn : node < b → {to : ℕ} → Ends s node to → {l : Laid} {ys : List ℕ} → Is (g so_far (take (to - node) (drop node s))) l ys
+        → length ys ≡ length (take (to - node) (drop node s)) → {m : ℕ} → m ≡ cap (n + l.1)
+        → Along g a b so-far₀ s₀ to l.0 m (take node s ++ (ys ++ drop (to - node) (drop node s)))
     along_turn h {to} z {l} {ys} i j {m} f =
         let k : node < length s = omega (arith, p.path.inside) in
-        let r : List ℕ = drop (to _ node) (drop node s) in
+        let r : List ℕ = drop (to - node) (drop node s) in
         let s' : List ℕ = take node s ++ (ys ++ r) in
-        let q : node + (to _ node) ≡ to = omega (arith, end_after z k) in
-        let long : length s' ≡ length s = omega (arith, length-append (take node s) (ys ++ r), length-append ys r, j, length-take node s, length-take (to _ node) (drop node s), length-drop (to _ node) (drop node s), length-drop node s, end_after z k, end_within z k) in
-        let behind : drop to s' ≡ drop to s = stays s node to ys (le_of_lt (end_after z k)) (end_within z k) j ∙ rw q at (drop-drop (to _ node) node s) in
+        let q : node + (to - node) ≡ to = omega (arith, end_after z k) in
+        let long : length s' ≡ length s = omega (arith, length-append (take node s) (ys ++ r), length-append ys r, j, length-take node s, length-take (to - node) (drop node s), length-drop (to - node) (drop node s), length-drop node s, end_after z k, end_within z k) in
+        let behind : drop to s' ≡ drop to s = stays s node to ys (le_of_lt (end_after z k)) (end_within z k) j ∙ rw q at (drop-drop (to - node) node s) in
         record {
           long = long ∙ p.long;
           path = path_less p.path h z s' long behind;
@@ -207,13 +207,13 @@ quiet_on {e} s {a} {p} {to} Q l x h z n3 n4 = record { onwards = go }
         → Going (flex_in left i m) from s₀ e a so_far n u → Going (flex_in left i m) from s₀ e to so_far n u
     go left i m from n so_far s₀ u c d G =
         let dp : drop p u ≡ drop p s = later_same s u l d in
-        let v : List ℕ = take (to _ p) (drop p u) in
+        let v : List ℕ = take (to - p) (drop p u) in
         let there : p < length u = omega (arith, ap length dp, length-drop p u, length-drop p s) in
         let z' : Ends u p to = record { end = z.end ∙ ap (λ (t : List ℕ). p + span t) (sym dp) } in
         let zero_more : p + 0 ≡ p = omega arith in
         let tag : get_or v 0 0 ≡ get_or s p 0 =
-        get_or-take (to _ p) (drop p u) 0 0 (omega (arith, end_after z h)) ∙ ap (λ (t : List ℕ). get_or t 0 0) dp ∙ rw zero_more at (get_or-drop p s 0 0) in
-        let same : take p u ++ (v ++ drop (to _ p) (drop p u)) ≡ u = ap (λ (t : List ℕ). take p u ++ t) (take-append-drop (to _ p) (drop p u)) ∙ take-append-drop p u in
+        get_or-take (to - p) (drop p u) 0 0 (omega (arith, end_after z h)) ∙ ap (λ (t : List ℕ). get_or t 0 0) dp ∙ rw zero_more at (get_or-drop p s 0 0) in
+        let same : take p u ++ (v ++ drop (to - p) (drop p u)) ≡ u = ap (λ (t : List ℕ). take p u ++ t) (take-append-drop (to - p) (drop p u)) ∙ take-append-drop p u in
         subst (λ (u : List ℕ). Going (flex_in left i m) from s₀ e to so_far n u) same
         (node_turn (Q.onwards left i m from n so_far s₀ u c d G) x there z' (other_tag left i m so_far v (λ q. n3 (sym tag ∙ q)) (λ q. n4 (sym tag ∙ q))) refl (same_count n c))
 

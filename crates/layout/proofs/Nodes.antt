@@ -55,11 +55,11 @@ leaf_laying (suc left) i b so t v p q = record { count = 0; says = rw (p, q); ch
 
 -- a 3 over a row
 pub block_laying : (left i b : ℕ) (so : Shape) {v v' : List ℕ} {so' : Shape}
-    → Row (with_fragment (λ s. nodes_in (flex_in left (b _ 20) (b _ 20)) 3 s)) v v' (Inline 0 0) so'
+    → Row (with_fragment (λ s. nodes_in (flex_in left (b - 20) (b - 20)) 3 s)) v v' (Inline 0 0) so'
     → Laying (flex_in (suc left) i b so (field 3 v)) (field 3 v) (field 3 v') (so ⊕ Block 0 0)
 unfolding flex_in node_in fragments_in field
 block_laying left i b so {v} {v'} {so'} R =
-    let x = over_field (with_fragment (λ s. nodes_in (flex_in left (b _ 20) (b _ 20)) 3 s)) 3 R in
+    let x = over_field (with_fragment (λ s. nodes_in (flex_in left (b - 20) (b - 20)) 3 s)) 3 R in
     record { count = x.count; says = rw x.says; changes = x.changes }
 
 -- the choice of a 4's tag, and its count
@@ -73,16 +73,16 @@ kept_says so c candidate v false = rw (cap_more c 1)
 decided_says : (i : ℕ) (so : Shape) (c : ℕ) (v : List ℕ) (s : Shape)
     → decided i so s (cap c) (field 4 v) ≡ ((so ⊕ (chosen i s).1, cap (c + one_unless (eqb 4 (block_tag (chosen i s).0)))), field (block_tag (chosen i s).0) v)
 unfolding decided chosen kept_inline
-decided_says i so c v (Inline worst excess) = kept_says so c (worst _ excess) v (leb (worst _ excess) i)
+decided_says i so c v (Inline worst excess) = kept_says so c (worst - excess) v (leb (worst - excess) i)
 decided_says i so c v (Block pre post) = kept_says so c 0 v false
 
 -- a 4 over a row
 pub flexible_laying : (left i b : ℕ) (so : Shape) {v v' : List ℕ} {so' : Shape}
-    → Row (with_fragment (λ s. nodes_in (flex_in left (max (room i b so) (b _ 20)) (b _ 20)) 3 s)) v v' (Inline 0 0) so'
+    → Row (with_fragment (λ s. nodes_in (flex_in left (max (room i b so) (b - 20)) (b - 20)) 3 s)) v v' (Inline 0 0) so'
     → Laying (flex_in (suc left) i b so (field 4 v)) (field 4 v) (field (block_tag (chosen (room i b so) so').0) v') (so ⊕ (chosen (room i b so) so').1)
 unfolding flex_in node_in fragments_in field
 flexible_laying left i b so {v} {v'} {so'} R =
-    let e = over_says (with_fragment (λ s. nodes_in (flex_in left (max (room i b so) (b _ 20)) (b _ 20)) 3 s)) 4 R in
+    let e = over_says (with_fragment (λ s. nodes_in (flex_in left (max (room i b so) (b - 20)) (b - 20)) 3 s)) 4 R in
     record {
       count = R.count + one_unless (eqb 4 (block_tag (chosen (room i b so) so').0));
       says = rw e (decided_says (room i b so) so R.count v' so');

@@ -69,19 +69,19 @@ module _ (rigid_leaf : (n : Leaf ℕ) (d before : ℕ) (r : Fields ℕ) → Good
         let s = encode_fields (frag_fields r) in
         let q : past_in (rigid_in (field 3 v)) (so ⊕ Block 0 0) s ≡ past newline (Block 0 0) (so ⊕ Block 0 0) r =
         ap (λ (own : Shape). past_in own (so ⊕ Block 0 0) s) (rigid_3 v) ∙ past_tree r d 3 G.2 (so ⊕ Block 0 0) (Block 0 0) in
-        let v' = encode_fields (frags_fields (lay_all newline fs (b _ 20) (b _ 20) (Inline 0 0)).0) in
-        let R = frags_row fs (suc d) 0 l f (inner_good 3 d (frags_fields fs) in_block refl G.1) (b _ 20) (b _ 20) (Inline 0 0) in
+        let v' = encode_fields (frags_fields (lay_all newline fs (b - 20) (b - 20) (Inline 0 0)).0) in
+        let R = frags_row fs (suc d) 0 l f (inner_good 3 d (frags_fields fs) in_block refl G.1) (b - 20) (b - 20) (Inline 0 0) in
         let L = subst (λ (left : ℕ). Laying (flex_in left i b so (field 3 v)) (field 3 v) (field 3 v') (so ⊕ Block 0 0)) (sym is) (block_laying l i b so R) in
         row_more (with_node (flex_in left i b)) 3 v s G.0.fits (node_turn (flex_in left i b) (field 3 v) s so L q) (frag_row r d 3 left e G.2 i b _)
     frag_row (block flexible fs r) d before left e G i b so =
         let (l, is, f) = room_left d left flexible G.0.not_deep e in
         let v = encode_fields (frags_fields fs) in
         let s = encode_fields (frag_fields r) in
-        let i' : ℕ = max (room i b so) (b _ 20) in
-        let fs' = lay_all newline fs i' (b _ 20) (Inline 0 0) in
+        let i' : ℕ = max (room i b so) (b - 20) in
+        let fs' = lay_all newline fs i' (b - 20) (Inline 0 0) in
         let c = chosen (room i b so) fs'.1 in
         let q : past_in (rigid_in (field 4 v)) (so ⊕ c.1) s ≡ so ⊕ c.1 = ap (λ (own : Shape). past_in own (so ⊕ c.1) s) (rigid_4 v) in
-        let R = frags_row fs (suc d) 0 l f (inner_good 4 d (frags_fields fs) in_block refl G.1) i' (b _ 20) (Inline 0 0) in
+        let R = frags_row fs (suc d) 0 l f (inner_good 4 d (frags_fields fs) in_block refl G.1) i' (b - 20) (Inline 0 0) in
         let L = subst (λ (left : ℕ). Laying (flex_in left i b so (field 4 v)) (field 4 v) (field (block_tag c.0) (encode_fields (frags_fields fs'.0))) (so ⊕ c.1))
         (sym is) (flexible_laying l i b so R) in
         row_more (with_node (flex_in left i b)) 4 v s G.0.fits (node_turn (flex_in left i b) (field 4 v) s so L q) (frag_row r d 4 left e G.2 i b _)

@@ -32,10 +32,10 @@ closing_nil zero at = refl
 closing_nil (suc k) at = refl
 
 -- the field at `at`, as the code has it
-pub here_at : {s : List ℕ} {at to : ℕ} → Ends s at to → take (to _ at) (drop at s) ≡ here (drop at s)
+pub here_at : {s : List ℕ} {at to : ℕ} → Ends s at to → take (to - at) (drop at s) ≡ here (drop at s)
 unfolding here
 here_at {s} {at} {to} e =
-    let q : to _ at ≡ span (drop at s) = omega (arith, e.end) in
+    let q : to - at ≡ span (drop at s) = omega (arith, e.end) in
     ap (λ (n : ℕ). take n (drop at s)) q
 
 -- ---- the end of a stretch, seen from a field

@@ -58,7 +58,7 @@ kept true candidate so_far n h = ((so_far ⊕ Inline candidate 0, n), h)
 kept false candidate so_far n h = ((so_far ⊕ Block 0 0, cap (n + 1)), set h 0 3)
 
 unfoldable pub decided : (i : ℕ) → (so_far fragments : Shape) → (changed : ℕ) → List ℕ → Laid × List ℕ
-decided i so_far (Inline worst excess) n h = kept (leb (worst _ excess) i) (worst _ excess) so_far n h
+decided i so_far (Inline worst excess) n h = kept (leb (worst - excess) i) (worst - excess) so_far n h
 decided i so_far (Block pre post) n h = kept false 0 so_far n h
 
 -- a node after the shape so far, at the fragment's maxima i and b, by its tag; g lays out a fragment of its at maxima
@@ -66,12 +66,12 @@ unfoldable pub node_in : ((i b : ℕ) → List ℕ → Laid × List ℕ) → (i 
 node_in g i b so_far h =
     if eqb (get_or h 0 0) 3
     then
-    (let x : Laid × List ℕ = fragments_in (g (b _ indentation) (b _ indentation)) h in
+    (let x : Laid × List ℕ = fragments_in (g (b - indentation) (b - indentation)) h in
     ((so_far ⊕ Block 0 0, x.0.1), x.1))
     else
     (if eqb (get_or h 0 0) 4
     then
-    (let x : Laid × List ℕ = fragments_in (g (max (room i b so_far) (b _ indentation)) (b _ indentation)) h in
+    (let x : Laid × List ℕ = fragments_in (g (max (room i b so_far) (b - indentation)) (b - indentation)) h in
     decided (room i b so_far) so_far x.0.0 x.0.1 x.1)
     else ((so_far, 0), h))
 

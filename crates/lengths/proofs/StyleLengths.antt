@@ -147,7 +147,7 @@ signed_size : (b : ℕ) → b < 256 → right_size b ≡ true → AcceptedSize (
 unfolding signed right_size
 signed_size b h e = go (leb b 117) (ltb b 128) refl refl e
   where
-    go : (x y : Bool) → leb b 117 ≡ x → ltb b 128 ≡ y → (x || leb 128 b) ≡ true → AcceptedSize (if y then pos b else negsuc (255 _ b))
+    go : (x y : Bool) → leb b 117 ≡ x → ltb b 128 ≡ y → (x || leb 128 b) ≡ true → AcceptedSize (if y then pos b else negsuc (255 - b))
     go true true p q e = omega (arith, leb-true b 117 p)
     go false true p q e = absurd (omega (arith, leb-true 128 b e, ltb-true b 128 q))
     go x false p q e = omega (arith, ltb-false b 128 q)

@@ -26,12 +26,12 @@ module _ {odd : ℕ} {s : List ℕ} {to : ℕ} (h : to ≤ length s) where
       (lacks_by n (suc from) (omega arith) (record { each = λ k a b. C.each k (omega (arith, a)) b }))
 
   pub lacks_has : {from : ℕ} → from ≤ to → Lacks odd s from to → has odd (slice from to s) ≡ false
-  lacks_has {from} l L = lacks_by (to _ from) from (omega arith) L
+  lacks_has {from} l L = lacks_by (to - from) from (omega arith) L
 
   module _ {from : ℕ} (l : from ≤ to) (C : Calm odd s from to) where
     pub calm_utf8 : utf8 (slice from to s) ≡ true
     unfolding utf8
-    calm_utf8 = utf8_by (to _ from) from (omega arith) C
+    calm_utf8 = utf8_by (to - from) from (omega arith) C
 
     pub calm_lacks : has odd (slice from to s) ≡ false
     calm_lacks = lacks_has l (record { each = λ k a b. (C.each k a b).1 })

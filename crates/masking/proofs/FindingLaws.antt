@@ -38,11 +38,11 @@ module _ {s : List ℕ} {p at : ℕ} (S : Seeking s p at) where
       go (suc k) = rw (sym (cut s at (omega arith))) refl
 
   module _ {t from to : ℕ} {x : Bool} {f : Field} (i : at < length s) (e : f ≡ field_at s at) (w : f ≡ Whole t from to) (y : x ≡ (is_text t && eqb at p)) where
-    pub found_here : x ≡ true → some (to _ from) ≡ length_at_place s p
+    pub found_here : x ≡ true → some (to - from) ≡ length_at_place s p
     unfolding length_from length_past
     found_here h = go S.fuel S.enough S.same
       where
-        go : (k : ℕ) → length s ≤ at + k → length_from k s at p ≡ length_at_place s p → some (to _ from) ≡ length_at_place s p
+        go : (k : ℕ) → length s ≤ at + k → length_from k s at p ≡ length_at_place s p → some (to - from) ≡ length_at_place s p
         go zero l q = absurd (omega arith)
         go (suc k) l q = sym (rw (sym e ∙ w, sym y ∙ h)) ∙ q
 
@@ -57,5 +57,5 @@ module _ {s : List ℕ} {p at : ℕ} (S : Seeking s p at) where
         go zero l q = absurd (omega arith)
         go (suc k) l q = record { fuel = k; enough = omega (arith, N.0); inside = N.1; same = sym (rw (sym e ∙ w, sym y ∙ h, sym n)) ∙ q }
 
-    pub rises : {next : ℕ} → next ≡ next_place t from to → length s _ next < length s _ at
+    pub rises : {next : ℕ} → next ≡ next_place t from to → length s - next < length s - at
     rises {next} n = let N : (at + 3 ≤ next) × (next ≤ length s) = next_within s at t from to next f e w n in omega (arith, N.0, i)

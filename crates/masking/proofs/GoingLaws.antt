@@ -37,27 +37,27 @@ module _ (s : List ℕ) (at next : ℕ) (h : at + 3 ≤ next) (l : next ≤ leng
   header = take 3 (drop at s)
 
   abbrev value : List ℕ
-  value = take (next _ (at + 3)) (drop (at + 3) s)
+  value = take (next - (at + 3)) (drop (at + 3) s)
 
   header_long : length header ≡ 3
   header_long = length-take-le 3 (drop at s) (omega (arith, length-drop at s))
 
-  value_long : length value ≡ next _ (at + 3)
-  value_long = length-take-le (next _ (at + 3)) (drop (at + 3) s) (omega (arith, length-drop (at + 3) s))
+  value_long : length value ≡ next - (at + 3)
+  value_long = length-take-le (next - (at + 3)) (drop (at + 3) s) (omega (arith, length-drop (at + 3) s))
 
   taken : take next s ≡ take at s ++ (header ++ value)
   taken =
-      let e : next ≡ at + 3 + (next _ (at + 3)) = omega arith in
-      ap (λ (n : ℕ). take n s) e ∙ take-add (at + 3) (next _ (at + 3)) s ∙ ap (◌++ value) (take-add at 3 s) ∙ append_assoc (take at s) header value
+      let e : next ≡ at + 3 + (next - (at + 3)) = omega arith in
+      ap (λ (n : ℕ). take n s) e ∙ take-add (at + 3) (next - (at + 3)) s ∙ ap (◌++ value) (take-add at 3 s) ∙ append_assoc (take at s) header value
 
-  field_masked : (x : Bool) → mask_bytes newlines (false ∷ false ∷ false ∷ replicate (next _ (at + 3)) x) (header ++ value) ≡ header ++ mask_value x value
+  field_masked : (x : Bool) → mask_bytes newlines (false ∷ false ∷ false ∷ replicate (next - (at + 3)) x) (header ++ value) ≡ header ++ mask_value x value
   field_masked x =
-      mask_append (false ∷ false ∷ false ∷ []) (replicate (next _ (at + 3)) x) header value (sym header_long)
+      mask_append (false ∷ false ∷ false ∷ []) (replicate (next - (at + 3)) x) header value (sym header_long)
       ∙ ap₂ ◌++◌ (mask_header header header_long) (ap (λ (n : ℕ). mask_bytes newlines (replicate n x) value) (sym value_long) ∙ mask_run x value)
 
   -- its header written, and then its value
-  module _ {page page₁ : List ℕ} {n : ℕ} (k : length s ≤ length page) (z : length page ≤ last) (g : Written page at (take (at + 3 _ at) (drop at s)) page₁ n) where
-    three : at + 3 _ at ≡ 3
+  module _ {page page₁ : List ℕ} {n : ℕ} (k : length s ≤ length page) (z : length page ≤ last) (g : Written page at (take (at + 3 - at) (drop at s)) page₁ n) where
+    three : at + 3 - at ≡ 3
     three = omega arith
 
     behind : n ≡ at + 3
@@ -127,7 +127,7 @@ pub next_in : {s page₀ page : List ℕ} {at t from to next : ℕ} {f : Field} 
 next_in {s} {at = at} {t} {from} {to} {next} {f} G e w q = next_within s at t from to next f e w q
 
 pub flags_on : (k : ℕ) (s : List ℕ) (at t from to next : ℕ) (x : Bool) (f : Field) → f ≡ field_at s at → f ≡ Whole t from to → next ≡ next_place t from to → x ≡ is_text t
-    → flags_from (suc k) s at ≡ (false ∷ false ∷ false ∷ replicate (next _ (at + 3)) x) ++ flags_from k s next
+    → flags_from (suc k) s at ≡ (false ∷ false ∷ false ∷ replicate (next - (at + 3)) x) ++ flags_from k s next
 unfolding flags_from flags_past flags_of
 flags_on k s at t from to next x f e w q y =
     let W : IsWhole s at t from to = is_whole s at t from to f e w in
@@ -135,16 +135,16 @@ flags_on k s at t from to next x f e w q y =
 
 -- one field more
 module _ {s page₀ page page' : List ℕ} {at t from to next r : ℕ} {x : Bool} {f : Field} (G : Going s page₀ page at) (i : at < length s) (z : length s ≤ last) (e : f ≡ field_at s at) (w : f ≡ Whole t from to)
-    (q : next ≡ next_place t from to) (y : x ≡ is_text t) (g : Written page at (take 3 (drop at s) ++ mask_value x (take (next _ (at + 3)) (drop (at + 3) s))) page' r) where
+    (q : next ≡ next_place t from to) (y : x ≡ is_text t) (g : Written page at (take 3 (drop at s) ++ mask_value x (take (next - (at + 3)) (drop (at + 3) s))) page' r) where
   N : (at + 3 ≤ next) × (next ≤ length s)
   N = next_within s at t from to next f e w q
 
   more : List Bool
-  more = false ∷ false ∷ false ∷ replicate (next _ (at + 3)) x
+  more = false ∷ false ∷ false ∷ replicate (next - (at + 3)) x
 
-  more_long : length more ≡ next _ at
+  more_long : length more ≡ next - at
   unfolding more
-  more_long = omega (arith, length-replicate (next _ (at + 3)) x, N.0)
+  more_long = omega (arith, length-replicate (next - (at + 3)) x, N.0)
 
   value_length : (x : Bool) (v : List ℕ) → length (mask_value x v) ≡ length v
   unfolding mask_value veiled
@@ -157,16 +157,16 @@ module _ {s page₀ page page' : List ℕ} {at t from to next r : ℕ} {x : Bool
       omega (
         arith,
         g.next,
-        length-append (take 3 (drop at s)) (mask_value x (take (next _ (at + 3)) (drop (at + 3) s))),
+        length-append (take 3 (drop at s)) (mask_value x (take (next - (at + 3)) (drop (at + 3) s))),
         header_long s at next N.0 N.1,
-        value_length x (take (next _ (at + 3)) (drop (at + 3) s)),
+        value_length x (take (next - (at + 3)) (drop (at + 3) s)),
         value_long s at next N.0 N.1,
         N.0,
         N.1,
         z,
       )
 
-  text_is : mask_bytes newlines (G.passed ++ more) (take next s) ≡ mask_bytes newlines G.passed (take at s) ++ (take 3 (drop at s) ++ mask_value x (take (next _ (at + 3)) (drop (at + 3) s)))
+  text_is : mask_bytes newlines (G.passed ++ more) (take next s) ≡ mask_bytes newlines G.passed (take at s) ++ (take 3 (drop at s) ++ mask_value x (take (next - (at + 3)) (drop (at + 3) s)))
   unfolding more
   text_is =
       ap (mask_bytes newlines (G.passed ++ more)) (taken s at next N.0 N.1)

@@ -85,10 +85,10 @@ module _ {o m : List ℕ} {text : Bool} {at from end r : ℕ} (e : from ≡ min 
 
 -- ---- the mask, place by place
 
-behind : (a b : List Bool) (n k : ℕ) → length a ≡ n → n ≤ k → get_or (a ++ b) k false ≡ get_or b (k _ n) false
+behind : (a b : List Bool) (n k : ℕ) → length a ≡ n → n ≤ k → get_or (a ++ b) k false ≡ get_or b (k - n) false
 behind a b n k e l =
-    let q : k ≡ length a + (k _ n) = omega arith in
-    ap (λ (j : ℕ). get_or (a ++ b) j false) q ∙ get_or-append-add a b (k _ n) false
+    let q : k ≡ length a + (k - n) = omega arith in
+    ap (λ (j : ℕ). get_or (a ++ b) j false) q ∙ get_or-append-add a b (k - n) false
 
 -- three that do not, and then n alike
 three_then : (x : Bool) (n : ℕ) (k : ℕ) → 3 ≤ k → k < n + 3 → get_or (false ∷ false ∷ false ∷ replicate n x) k false ≡ x
@@ -118,13 +118,13 @@ unfolding flags
 walk_begins s = record { fuel = length s; passed = []; enough = omega arith; rest = refl; long = refl }
 
 module _ {s : List ℕ} {at : ℕ} (W : Walk s at) where
-  rest_at : (k : ℕ) → at ≤ k → get_or (flags s) k false ≡ get_or (flags_from W.fuel s at) (k _ at) false
+  rest_at : (k : ℕ) → at ≤ k → get_or (flags s) k false ≡ get_or (flags_from W.fuel s at) (k - at) false
   rest_at k h = ap (λ (ms : List Bool). get_or ms k false) W.rest ∙ behind W.passed (flags_from W.fuel s at) at k W.long h
 
   -- where no field is whole, nothing behind stands in a text
   none_behind : (f : Field) → f ≡ field_at s at → NotWhole f → (k : ℕ) → at ≤ k → get_or (flags s) k false ≡ false
   unfolding flags_from flags_past
-  none_behind f e n k h = rest_at k h ∙ ap (λ (ms : List Bool). get_or ms (k _ at) false) (go W.fuel)
+  none_behind f e n k h = rest_at k h ∙ ap (λ (ms : List Bool). get_or ms (k - at) false) (go W.fuel)
     where
       go : (k : ℕ) → flags_from k s at ≡ []
       go zero = refl
@@ -136,11 +136,11 @@ module _ {s : List ℕ} {at : ℕ} (W : Walk s at) where
     N = next_within s at t from to next f e w q
 
     more : List Bool
-    more = false ∷ false ∷ false ∷ replicate (next _ (at + 3)) x
+    more = false ∷ false ∷ false ∷ replicate (next - (at + 3)) x
 
-    more_long : length more ≡ next _ at
+    more_long : length more ≡ next - at
     unfolding more
-    more_long = omega (arith, length-replicate (next _ (at + 3)) x, N.0)
+    more_long = omega (arith, length-replicate (next - (at + 3)) x, N.0)
 
     record Passed : Type 0 where
       less : ℕ
@@ -165,17 +165,17 @@ module _ {s : List ℕ} {at : ℕ} (W : Walk s at) where
           long = length-append W.passed more ∙ omega (arith, W.long, more_long, N.0);
         }
 
-    in_field : (k : ℕ) → at ≤ k → k < next → get_or (flags s) k false ≡ get_or more (k _ at) false
+    in_field : (k : ℕ) → at ≤ k → k < next → get_or (flags s) k false ≡ get_or more (k - at) false
     in_field k h l =
         let P : Passed = passed_it in
         ap (λ (ms : List Bool). get_or ms k false) P.is ∙ behind W.passed (more ++ flags_from P.less s next) at k W.long h
-        ∙ get_or-append more (flags_from P.less s next) false (k _ at) (omega (arith, more_long))
+        ∙ get_or-append more (flags_from P.less s next) false (k - at) (omega (arith, more_long))
 
     header_plain : (k : ℕ) → at ≤ k → k < at + 3 → get_or (flags s) k false ≡ false
-    header_plain k h l = in_field k h (omega (arith, N.0)) ∙ (unfold more in three_plain (replicate (next _ (at + 3)) x) (k _ at) (omega arith))
+    header_plain k h l = in_field k h (omega (arith, N.0)) ∙ (unfold more in three_plain (replicate (next - (at + 3)) x) (k - at) (omega arith))
 
     value_flagged : (k : ℕ) → at + 3 ≤ k → k < next → get_or (flags s) k false ≡ x
-    value_flagged k h l = in_field k (omega arith) l ∙ (unfold more in three_then x (next _ (at + 3)) (k _ at) (omega arith) (omega arith))
+    value_flagged k h l = in_field k (omega arith) l ∙ (unfold more in three_then x (next - (at + 3)) (k - at) (omega arith) (omega arith))
 
 -- ---- the loop
 

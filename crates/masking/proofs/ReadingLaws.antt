@@ -20,10 +20,10 @@ module _ (o m : List ℕ) (p : ℕ) (a : Answer) (e : said a ≡ pair_answer o m
     pub inside : (p + 3 + n ≤ length o) × (p + 3 + n ≤ length m)
     inside = (pair_is o m p n b accepted_so).ends
 
-    pub with_right : {names : Bool} → names ≡ true → take (p + 3 + n _ (p + 3)) (drop (p + 3) o) ≡ given_text o m p names
+    pub with_right : {names : Bool} → names ≡ true → take (p + 3 + n - (p + 3)) (drop (p + 3) o) ≡ given_text o m p names
     unfolding given_text part_of
-    with_right h = let k : p + 3 + n _ (p + 3) ≡ n = omega arith in rw (k, accepted_so, h)
+    with_right h = let k : p + 3 + n - (p + 3) ≡ n = omega arith in rw (k, accepted_so, h)
 
-    pub without_right : {names : Bool} → names ≡ false → take (p + 3 + n _ (p + 3)) (drop (p + 3) m) ≡ given_text o m p names
+    pub without_right : {names : Bool} → names ≡ false → take (p + 3 + n - (p + 3)) (drop (p + 3) m) ≡ given_text o m p names
     unfolding given_text part_of
-    without_right h = let k : p + 3 + n _ (p + 3) ≡ n = omega arith in rw (k, accepted_so, h)
+    without_right h = let k : p + 3 + n - (p + 3) ≡ n = omega arith in rw (k, accepted_so, h)

@@ -40,7 +40,7 @@ no_text page [] at q e = nothing
 no_text page (b ∷ v) at q e = absurd (omega arith)
 
 pub put_veil : (page v : List ℕ) (at : ℕ) {ys : List ℕ} → length page ≤ last → (length v ≡ 0 → ⊥) → at + length v ≤ length page → ys ≡ veiled v
-    → Written page at (veiled v) (take at page ++ (ys ++ drop ((at + length v) _ at) (drop at page))) (at + length v)
+    → Written page at (veiled v) (take at page ++ (ys ++ drop ((at + length v) - at) (drop at page))) (at + length v)
 unfolding veiled
 put_veil page v at l z h e = all_fits page at (map veil v) (length-map v veil) l (omega (arith, above (length v) z)) (omega arith) e
   where

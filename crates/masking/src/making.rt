@@ -48,7 +48,7 @@ fn put_value(page: &mut [u8], at: usize, text: bool, v: &[u8]) -> usize
 // A field's three bytes, and what stands behind them up to the next field.
 fn put_field(page: &mut [u8], file: &[u8], at: usize, next: usize, text: bool) -> usize
     requires { (at + 3 ≤ next) × (next ≤ length file.now) × (length file.now ≤ length page.old) }
-    ensures { Written page.old at (take 3 (drop at file.now) ++ mask_value text (take (next _ (at + 3)) (drop (at + 3) file.now))) page.new result }
+    ensures { Written page.old at (take 3 (drop at file.now) ++ mask_value text (take (next - (at + 3)) (drop (at + 3) file.now))) page.new result }
 {
     let from = at + 3;
     let value = put_bytes(page, at, &file[at..from]);

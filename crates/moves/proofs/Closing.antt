@@ -1,5 +1,5 @@
 -- The innermost open field: its code and its link are read off its header, and closing it makes it the field of what stands behind.
-use Rattle.rules.proofs.Basics.{◌≡◌, refl, sym, ap, ◌∙◌, List, [], ◌∷◌, ◌++◌, append_assoc, true, ◌||◌, or_true, ℕ, suc, ◌+◌, ◌-◌, ◌/◌, ◌%◌, arith, leb, eqb, le-leb, length, length-append, take, drop, sets-eq, add-one, sub-one}
+use Rattle.rules.proofs.Basics.{◌≡◌, refl, sym, ap, ◌∙◌, List, [], ◌∷◌, ◌++◌, append_assoc, true, ◌||◌, or-true, ℕ, suc, ◌+◌, ◌-◌, ◌/◌, ◌%◌, arith, leb, eqb, le-leb, length, length-append, take, drop, sets-eq, add-one, sub-one}
 use lib.Seq.{get_or-append_seam, get_or-append-add, take-append_seam, drop-append-add}
 use Rattle.rules.specs.Encode.{field}
 use Rattle.scripts.specs.Shown.{open_header}
@@ -33,14 +33,14 @@ module _ {w : List ℕ} {top : ℕ} {u : List ℕ} {c p : ℕ} {v : List ℕ} wh
   tops_stands k =
       let e : top ≡ suc (length u) = k.top_is in
       let l : length w ≡ length u + length (open_header c p ++ v) = ap length k.bytes_are ∙ length-append u _ in
-      rw (le-leb (top + 2) (length w) (omega arith)) (or_true (eqb top 0))
+      rw (le-leb (top + 2) (length w) (omega arith)) (or-true (eqb top 0))
 
   -- closed
   pub tops_closed : Tops w top u c p v → closed_in w (length w) top ≡ u ++ field (true_tag (c / 32)) v
   unfolding closed_in field
   tops_closed k =
       let l = length-append u (open_header c p ++ v) in
-      let n : length (u ++ (open_header c p ++ v)) _ (suc (length u) + 2) ≡ length v = omega arith in
+      let n : length (u ++ (open_header c p ++ v)) - (suc (length u) + 2) ≡ length v = omega arith in
       let vs : List ℕ = true_tag (c / 32) ∷ (length v / 256) ∷ (length v % 256) ∷ [] in
       let t : take (length u) (u ++ (open_header c p ++ v)) ≡ u = take-append_seam u _ in
       let d : drop (length u + 3) (u ++ (open_header c p ++ v)) ≡ v = drop-append-add u _ 3 in

@@ -30,8 +30,8 @@ held_result b (accepted t) = accepted (held_in b t)
 -- what stands behind more bytes is the same
 pub drop_later : (u b : List ℕ) (n : ℕ) → length u ≤ n → drop n (u ++ drop (length u) b) ≡ drop n b
 drop_later u b n l =
-    let e : n ≡ length u + (n _ length u) = omega arith in
-    rw e (drop-append-add u (drop (length u) b) _ ∙ drop-drop (n _ length u) (length u) b)
+    let e : n ≡ length u + (n - length u) = omega arith in
+    rw e (drop-append-add u (drop (length u) b) _ ∙ drop-drop (n - length u) (length u) b)
 
 -- finishing leaves what was held
 finish_held : (r : Result Nodes) (h : Held)

@@ -26,8 +26,8 @@ true_tag kind =
 -- the header gets its tag and the length of what stands behind it, up to `at`
 unfoldable pub closed_in : List ℕ → (at top : ℕ) → List ℕ
 closed_in w at top =
-    let n : ℕ = at _ (top + 2) in
-    set (set (set w (top _ 1) (true_tag (get_or w (top _ 1) 0 / 32))) top (n / 256)) (top + 1) (n % 256)
+    let n : ℕ = at - (top + 2) in
+    set (set (set w (top - 1) (true_tag (get_or w (top - 1) 0 / 32))) top (n / 256)) (top + 1) (n % 256)
 
 -- so many fields closed, at most two
 unfoldable pub closed_bytes : List ℕ → (at top closes : ℕ) → List ℕ

@@ -31,14 +31,14 @@ abbrev pub m_of : ℕ → ℕ
 m_of b = 0x80_0000 + b % 0x80_0000
 
 abbrev pub u_of : ℕ → ℕ
-u_of b = 1 * 2 ^ (150 _ b / 0x80_0000) % 2 ^ 64
+u_of b = 1 * 2 ^ (150 - b / 0x80_0000) % 2 ^ 64
 
 -- a field above 0: the significand has its leading one
-magnitude_at : (h e digits : ℕ) → 0 < e → magnitude h e digits ≡ (h + digits) * 2 ^ (e _ 1)
+magnitude_at : (h e digits : ℕ) → 0 < e → magnitude h e digits ≡ (h + digits) * 2 ^ (e - 1)
 magnitude_at h zero digits P = absurd (omega arith)
 magnitude_at h (suc x) digits P = ap (λ (z : ℕ). (h + digits) * 2 ^ z) (omega arith)
 
-gap_at : (e : ℕ) → 0 < e → rules.gap e ≡ 2 ^ (e _ 1)
+gap_at : (e : ℕ) → 0 < e → rules.gap e ≡ 2 ^ (e - 1)
 gap_at zero P = absurd (omega arith)
 gap_at (suc x) P = ap (λ (z : ℕ). 2 ^ z) (omega arith)
 
@@ -49,14 +49,14 @@ module _ {b : ℕ} (I : InRange b) where
   pub field_to : field b ≤ 127
   field_to = omega (arith, I.most)
 
-  u_is : u_of b ≡ 2 ^ (150 _ field b)
-  u_is = shl_exact {a = 1} 1 (150 _ field b) 64 (omega arith) (omega (arith, field_from)) ∙ one-mul _
+  u_is : u_of b ≡ 2 ^ (150 - field b)
+  u_is = shl_exact {a = 1} 1 (150 - field b) 64 (omega arith) (omega (arith, field_from)) ∙ one-mul _
 
   u_pos : 0 < u_of b
-  u_pos = subst (λ (z : ℕ). 0 < z) (sym u_is) (pow_pos (150 _ field b))
+  u_pos = subst (λ (z : ℕ). 0 < z) (sym u_is) (pow_pos (150 - field b))
 
   u_le : u_of b ≤ 2 ^ 33
-  u_le = subst (λ (z : ℕ). z ≤ 2 ^ 33) (sym u_is) (pow_mono {i = 150 _ field b} {j = 33} (omega (arith, field_from)))
+  u_le = subst (λ (z : ℕ). z ≤ 2 ^ 33) (sym u_is) (pow_mono {i = 150 - field b} {j = 33} (omega (arith, field_from)))
 
   pub sized : (d : ℕ) → d ≤ 4 → Sized (m_of b) (u_of b) d 1
   sized d D = record { m_lt = omega arith; u_pos = u_pos; u_le = u_le; d_le = D; t_le = omega arith }
@@ -64,10 +64,10 @@ module _ {b : ℕ} (I : InRange b) where
   -- ---- the value, and its neighbours
 
   abbrev gap : ℕ
-  gap = 2 ^ (field b _ 1)
+  gap = 2 ^ (field b - 1)
 
   abbrev under : ℕ
-  under = rules.gap ((b _ 1) / 0x80_0000)
+  under = rules.gap ((b - 1) / 0x80_0000)
 
   value : mag binary32 b ≡ m_of b * gap
   unfolding mag
@@ -75,14 +75,14 @@ module _ {b : ℕ} (I : InRange b) where
 
   unit : 2 ^ low binary32 ≡ u_of b * gap
   unit =
-      let s : 149 ≡ (150 _ field b) + (field b _ 1) = omega (arith, field_from, field_to) in
-      ap (λ (z : ℕ). 2 ^ z) s ∙ pow-add 2 (150 _ field b) (field b _ 1) ∙ ap (λ (z : ℕ). z * gap) (sym u_is)
+      let s : 149 ≡ (150 - field b) + (field b - 1) = omega (arith, field_from, field_to) in
+      ap (λ (z : ℕ). 2 ^ z) s ∙ pow-add 2 (150 - field b) (field b - 1) ∙ ap (λ (z : ℕ). z * gap) (sym u_is)
 
   up : mag binary32 (suc b) ≡ mag binary32 b + gap
   up = rules.mag_suc binary32 b ∙ ap (λ (z : ℕ). mag binary32 b + z) (gap_at (field b) (omega (arith, field_from)))
 
-  down : mag binary32 b ≡ mag binary32 (b _ 1) + under
-  down = ap (mag binary32) (omega (arith, I.least)) ∙ rules.mag_suc binary32 (b _ 1)
+  down : mag binary32 b ≡ mag binary32 (b - 1) + under
+  down = ap (mag binary32) (omega (arith, I.least)) ∙ rules.mag_suc binary32 (b - 1)
 
   scaled : (d : ℕ) → d * under ≡ 2 * gap → Scaled binary32 b (m_of b) (u_of b) d
   scaled d h =
@@ -90,8 +90,8 @@ module _ {b : ℕ} (I : InRange b) where
         gap = gap;
         under = under;
         u_pos = u_pos;
-        gap_pos = pow_pos (field b _ 1);
-        under_pos = rules.gap_pos ((b _ 1) / 0x80_0000);
+        gap_pos = pow_pos (field b - 1);
+        under_pos = rules.gap_pos ((b - 1) / 0x80_0000);
         value = value;
         unit = unit;
         up = up;
@@ -102,13 +102,13 @@ module _ {b : ℕ} (I : InRange b) where
 
   pub scaled_two : (b % 0x80_0000 ≡ 0 → ⊥) → Scaled binary32 b (m_of b) (u_of b) 2
   scaled_two h =
-      let g : (b _ 1) / 0x80_0000 ≡ field b = omega (arith, field_from) in
+      let g : (b - 1) / 0x80_0000 ≡ field b = omega (arith, field_from) in
       scaled 2 (ap (λ (z : ℕ). 2 * rules.gap z) g ∙ ap (λ (z : ℕ). 2 * z) (gap_at (field b) (omega (arith, field_from))))
 
   pub scaled_four : b % 0x80_0000 ≡ 0 → Scaled binary32 b (m_of b) (u_of b) 4
   scaled_four h =
-      let x = field b _ 2 in
-      let g : (b _ 1) / 0x80_0000 ≡ suc x = omega (arith, field_from) in
+      let x = field b - 2 in
+      let g : (b - 1) / 0x80_0000 ≡ suc x = omega (arith, field_from) in
       let s : under ≡ 2 ^ x = ap rules.gap g in
       let t : gap ≡ 2 ^ x * 2 = ap (λ (z : ℕ). 2 ^ z) (omega (arith, field_from)) ∙ pow-suc 2 x in
       scaled 4 (omega arith)
@@ -124,15 +124,15 @@ module _ {b : ℕ} (I : InRange b) where
   reached_four h = record { reads = inl (subst (λ (z : ℕ). 4 * z + m_of b % 2 ≤ 10 ^ 10) (sym exact) (omega arith)) }
     where
       k : ℕ
-      k = 150 _ field b
+      k = 150 - field b
 
-      whole : m_of b * 10 ^ 10 ≡ 5 ^ 10 * 2 ^ (33 _ k) * u_of b
+      whole : m_of b * 10 ^ 10 ≡ 5 ^ 10 * 2 ^ (33 - k) * u_of b
       whole =
           ap (λ (z : ℕ). (0x80_0000 + z) * 10 ^ 10) h
-          ∙ ap (λ (z : ℕ). 5 ^ 10 * 2 ^ z) {x = 33} {y = (33 _ k) + k} (omega (arith, field_from))
-          ∙ ap (λ (z : ℕ). 5 ^ 10 * z) (pow-add 2 (33 _ k) k)
-          ∙ sym (mul_assoc (5 ^ 10) (2 ^ (33 _ k)) (2 ^ k))
-          ∙ ap (λ (z : ℕ). 5 ^ 10 * 2 ^ (33 _ k) * z) (sym u_is)
+          ∙ ap (λ (z : ℕ). 5 ^ 10 * 2 ^ z) {x = 33} {y = (33 - k) + k} (omega (arith, field_from))
+          ∙ ap (λ (z : ℕ). 5 ^ 10 * z) (pow-add 2 (33 - k) k)
+          ∙ sym (mul_assoc (5 ^ 10) (2 ^ (33 - k)) (2 ^ k))
+          ∙ ap (λ (z : ℕ). 5 ^ 10 * 2 ^ (33 - k) * z) (sym u_is)
 
       exact : m_of b * 10 ^ 10 % u_of b ≡ 0
-      exact = ap (λ (z : ℕ). z % u_of b) whole ∙ mul-mod_left (5 ^ 10 * 2 ^ (33 _ k)) (u_of b)
+      exact = ap (λ (z : ℕ). z % u_of b) whole ∙ mul-mod_left (5 ^ 10 * 2 ^ (33 - k)) (u_of b)

@@ -38,11 +38,11 @@ module _ (m u d t : ℕ) where
   abbrev r : ℕ
   r = rest m u t
 
-  pub picks_lower : lower_reads m u d t ≡ true → (upper_reads m u t ≡ true → r < u _ r) → some (m * t / u) ≡ picked m u d t
+  pub picks_lower : lower_reads m u d t ≡ true → (upper_reads m u t ≡ true → r < u - r) → some (m * t / u) ≡ picked m u d t
   unfolding picked
   picks_lower h g = sym (choose_lower _ _ _ (m * t / u) h (λ e. lt-ltb _ _ (g e)))
 
-  pub picks_upper : upper_reads m u t ≡ true → (lower_reads m u d t ≡ true → u _ r ≤ r) → some (suc (m * t / u)) ≡ picked m u d t
+  pub picks_upper : upper_reads m u t ≡ true → (lower_reads m u d t ≡ true → u - r ≤ r) → some (suc (m * t / u)) ≡ picked m u d t
   unfolding picked
   picks_upper h g = sym (choose_upper _ _ _ (m * t / u) h (λ e. le-ltb _ _ (g e)))
 

@@ -61,8 +61,8 @@ module _ {f : Format} {b m u d : ℕ} (p : ℕ) (S : Scaled f b m u d) where
   left_lt : Q < W
   left_lt = subst⁻¹ (λ (z : ℕ). Q < z) S.unit (mul-lt-mul_of_pos_right (mod-lt (m * t) S.u_pos) S.gap_pos)
 
-  below : mag f b * t ≡ mag f (b _ 1) * t + S.under * t
-  below = ap (λ (z : ℕ). z * t) S.down ∙ add-mul (mag f (b _ 1)) S.under t
+  below : mag f b * t ≡ mag f (b - 1) * t + S.under * t
+  below = ap (λ (z : ℕ). z * t) S.down ∙ add-mul (mag f (b - 1)) S.under t
 
   above : mag f (suc b) * t ≡ mag f b * t + S.gap * t
   above = ap (λ (z : ℕ). z * t) S.up ∙ add-mul (mag f b) S.gap t
@@ -80,8 +80,8 @@ module _ {f : Format} {b m u d : ℕ} (p : ℕ) (S : Scaled f b m u d) where
   lower_scaled : d * r * S.under ≡ 2 * Q
   lower_scaled = mul_right_comm d r S.under ∙ ap (λ (z : ℕ). z * r) S.half ∙ mul_right_comm 2 S.gap r ∙ mul_assoc 2 r S.gap
 
-  upper_scaled : (u _ r) * S.gap + Q ≡ W
-  upper_scaled = sym (add-mul (u _ r) r S.gap) ∙ ap (λ (z : ℕ). z * S.gap) (omega (arith, mod-lt (m * t) S.u_pos)) ∙ sym S.unit
+  upper_scaled : (u - r) * S.gap + Q ≡ W
+  upper_scaled = sym (add-mul (u - r) r S.gap) ∙ ap (λ (z : ℕ). z * S.gap) (omega (arith, mod-lt (m * t) S.u_pos)) ∙ sym S.unit
 
   -- ---- the number below
 
@@ -104,13 +104,13 @@ module _ {f : Format} {b m u d : ℕ} (p : ℕ) (S : Scaled f b m u d) where
   pub upper_to : T (upper_reads m u t) → Within f (suc n) t b
   upper_to h =
       let e : 2 * W + b % 2 ≤ S.gap * t + 2 * Q =
-      omega (arith, S.parity, upper_scaled, mul_assoc 2 (u _ r) S.gap, mul_comm S.gap t, scale_up (2 * (u _ r)) (m % 2) t S.gap S.gap_pos (leb→le _ _ h)) in
+      omega (arith, S.parity, upper_scaled, mul_assoc 2 (u - r) S.gap, mul_comm S.gap t, scale_up (2 * (u - r)) (m % 2) t S.gap S.gap_pos (leb→le _ _ h)) in
       record { lo = omega (arith, value_is, below, next, under_pos, left_lt, bit b); hi = omega (arith, value_is, above, next) }
 
   upper_from : Within f (suc n) t b → T (upper_reads m u t)
   upper_from w =
       let e : 2 * W + b % 2 ≤ S.gap * t + 2 * Q = omega (arith, value_is, above, next, w.hi) in
-      le→leb _ _ (scale_down (2 * (u _ r)) (m % 2) t S.gap S.gap_pos (bit m) (omega (arith, S.parity, upper_scaled, mul_assoc 2 (u _ r) S.gap, mul_comm S.gap t)))
+      le→leb _ _ (scale_down (2 * (u - r)) (m % 2) t S.gap S.gap_pos (bit m) (omega (arith, S.parity, upper_scaled, mul_assoc 2 (u - r) S.gap, mul_comm S.gap t)))
 
   upper_is : nearest f (suc n) t b ≡ upper_reads m u t
   upper_is = same_test _ _ (λ h. upper_from (within_of f (suc n) t b h)) (λ h. within_test f (suc n) t b (upper_to h))
@@ -119,12 +119,12 @@ module _ {f : Format} {b m u d : ℕ} (p : ℕ) (S : Scaled f b m u d) where
 
   closer_is : prefers_lower false (off f n t b) (off f (suc n) t b) ≡ lower_closer m u t
   unfolding prefers_lower
-  closer_is = same_test _ _ (λ h. lt→ltb _ _ (from (ltb→lt (off f n t b) (off f (suc n) t b) h))) (λ h. lt→ltb _ _ (to (ltb→lt r (u _ r) h)))
+  closer_is = same_test _ _ (λ h. lt→ltb _ _ (from (ltb→lt (off f n t b) (off f (suc n) t b) h))) (λ h. lt→ltb _ _ (to (ltb→lt r (u - r) h)))
     where
-      to : r < u _ r → off f n t b < off f (suc n) t b
+      to : r < u - r → off f n t b < off f (suc n) t b
       to h = omega (arith, value_is, next, left_lt, upper_scaled, mul-lt-mul_of_pos_right h S.gap_pos)
 
-      from : off f n t b < off f (suc n) t b → r < u _ r
+      from : off f n t b < off f (suc n) t b → r < u - r
       from h = lt_of_mul-lt-mul_right S.gap (omega (arith, value_is, next, left_lt, upper_scaled))
 
   pub picked_is : at_places f false b p ≡ picked m u d t

@@ -36,8 +36,8 @@ module _ {m u d t p : ℕ} (L : Turn m u d t p) where
   pub stop : {n : ℕ} → some n ≡ picked m u d t → DecimalOf m u d (record { negative = false; whole = n; places = p })
   unfolding found signed_decimal
   stop {n} e b S =
-      let k : 149 _ p ≡ suc (148 _ p) = omega (arith, L.few) in
-      ap (signed_decimal false) (sym (L.on b (149 _ p) S (omega (arith, L.few)) ∙ ap (λ (z : ℕ). from_places z binary32 false b p) k ∙ turn (some n) e b (148 _ p) S))
+      let k : 149 - p ≡ suc (148 - p) = omega (arith, L.few) in
+      ap (signed_decimal false) (sym (L.on b (149 - p) S (omega (arith, L.few)) ∙ ap (λ (z : ℕ). from_places z binary32 false b p) k ∙ turn (some n) e b (148 - p) S))
 
   pub below_ten : Reached m u d → none ≡ picked m u d t → p < 10
   below_ten R e =

@@ -18,10 +18,10 @@ abbrev pub lower_reads : (m u d t : ℕ) → Bool
 lower_reads m u d t = leb (d * rest m u t + m % 2) t
 
 abbrev pub upper_reads : (m u t : ℕ) → Bool
-upper_reads m u t = leb (2 * (u _ rest m u t) + m % 2) t
+upper_reads m u t = leb (2 * (u - rest m u t) + m % 2) t
 
 abbrev pub lower_closer : (m u t : ℕ) → Bool
-lower_closer m u t = ltb (rest m u t) (u _ rest m u t)
+lower_closer m u t = ltb (rest m u t) (u - rest m u t)
 
 unfoldable pub picked : (m u d t : ℕ) → Option ℕ
 picked m u d t = choice (lower_reads m u d t) (upper_reads m u t) (lower_closer m u t) (m * t / u)
@@ -36,4 +36,4 @@ pub record Sized (m u d t : ℕ) : Type 0 where
 
 -- ten places are enough
 pub record Reached (m u d : ℕ) : Type 0 where
-  pub reads : (d * rest m u (10 ^ 10) + m % 2 ≤ 10 ^ 10) ⊎ (2 * (u _ rest m u (10 ^ 10)) + m % 2 ≤ 10 ^ 10)
+  pub reads : (d * rest m u (10 ^ 10) + m % 2 ≤ 10 ^ 10) ⊎ (2 * (u - rest m u (10 ^ 10)) + m % 2 ≤ 10 ^ 10)

@@ -17,7 +17,7 @@ pub record Scaled (f : Format) (b m u d : ℕ) : Type 0 where
   pub value : mag f b ≡ m * gap
   pub unit : 2 ^ low f ≡ u * gap
   pub up : mag f (suc b) ≡ mag f b + gap
-  pub down : mag f b ≡ mag f (b _ 1) + under
+  pub down : mag f b ≡ mag f (b - 1) + under
   pub half : d * under ≡ 2 * gap
   pub parity : b % 2 ≡ m % 2
 

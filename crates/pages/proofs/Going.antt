@@ -27,13 +27,13 @@ module _ {f : ℕ → List ℕ → Ops} {base from : ℕ} {s : List ℕ} {p₀ :
   going_starts = record { done = []; left = record { fuel = length s; enough = omega arith; work = refl }; rendered = nothing }
 
   module _ {at : ℕ} {p : Pen} {page : List ℕ} (g : Going f base from s p₀ page₀ at p page) where
-    pub going_more : {to : ℕ} {p' : Pen} {page' : List ℕ} → at < length s → Ends s at to → Rendered (f (base + at) (take (to _ at) (drop at s))) p page p' page'
+    pub going_more : {to : ℕ} {p' : Pen} {page' : List ℕ} → at < length s → Ends s at to → Rendered (f (base + at) (take (to - at) (drop at s))) p page p' page'
         → Going f base from s p₀ page₀ to p' page'
     unfolding with_rest here
     going_more {to} h e r =
-        let n : to _ at ≡ span (drop at s) = omega (arith, e.end) in
+        let n : to - at ≡ span (drop at s) = omega (arith, e.end) in
         let next : base + at + span (drop at s) ≡ base + to = omega (arith, e.end) in
-        let ops : Ops = f (base + at) (take (to _ at) (drop at s)) in
+        let ops : Ops = f (base + at) (take (to - at) (drop at s)) in
         record {
           done = g.done ++ ops;
           left = left_more g.left h e (λ k.

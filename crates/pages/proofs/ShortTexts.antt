@@ -31,7 +31,7 @@ use Rattle.pages.proofs.LeafLaws.{whole_run}
 -- what ends with v
 to_the_end : (v : List ℕ) (from to : ℕ) → to ≡ length v → walk.part v from to ≡ drop from v
 unfolding walk.part
-to_the_end v from to l = take_all (to _ from) (drop from v) (omega (arith, length-drop from v, l))
+to_the_end v from to l = take_all (to - from) (drop from v) (omega (arith, length-drop from v, l))
 
 module _ (v : List ℕ) where
   pub not_found : TextFrom v (length v)
@@ -92,20 +92,20 @@ without_newline [] n = refl
 without_newline (x ∷ v) n =
     rw (ne_eqb x 10 (n 0 (omega arith)), without_newline v (λ k h. n (suc k) (omega arith))) refl
 
-pub a_line : (s : List ℕ) (from to : ℕ) → to ≤ length s → from < to → NoNewline s from to → OneLine (take (to _ from) (drop from s))
+pub a_line : (s : List ℕ) (from to : ℕ) → to ≤ length s → from < to → NoNewline s from to → OneLine (take (to - from) (drop from s))
 unfolding text_ops later
 a_line s from to l h n =
-    let v : List ℕ = take (to _ from) (drop from s) in
-    let n-long : length v ≡ to _ from = long s from to l in
+    let v : List ℕ = take (to - from) (drop from s) in
+    let n-long : length v ≡ to - from = long s from to l in
     let byte : (k : ℕ) → k < length v → get_or v k 0 ≡ get_or s (from + k) 0 =
-    λ k q. get_or-take (to _ from) (drop from s) k 0 (omega (arith, q, n-long)) ∙ get_or-drop from s k 0 in
+    λ k q. get_or-take (to - from) (drop from s) k 0 (omega (arith, q, n-long)) ∙ get_or-drop from s k 0 in
     let p : parts newline v ≡ (v, []) = without_newline v (λ k q z. n.each (from + k) (omega arith) (omega (arith, q, n-long)) (sym (byte k q) ∙ z)) in
     record { any = omega (arith, n-long); line = ap (λ x. part x.0 ∷ later x.1) p }
 
 -- ---- windows
 
 -- a window around them
-pub window_around : {s : List ℕ} {from to : ℕ} → to _ from ≤ 8 → 8 ≤ to → NoNewline s (to _ 8) (to _ 8 + 8) → NoNewline s from to
+pub window_around : {s : List ℕ} {from to : ℕ} → to - from ≤ 8 → 8 ≤ to → NoNewline s (to - 8) (to - 8 + 8) → NoNewline s from to
 window_around {s} {from} {to} g e n = record { each = λ k a b. n.each k (omega (arith, a, b)) (omega (arith, a, b)) }
 
 pub no_windows : {s : List ℕ} {from : ℕ} → NoNewline s from from
@@ -120,7 +120,7 @@ window_more {s} {from} {at} n l e m =
 
 no_more : (t : ℕ) → levels_bytes t t ≡ []
 unfolding levels_bytes
-no_more t = let z : 2 * (t _ t) ≡ 0 = omega arith in rw (le-ltb t t (omega arith), z) refl
+no_more t = let z : 2 * (t - t) ≡ 0 = omega arith in rw (le-ltb t t (omega arith), z) refl
 
 spaced_again : (level : ℕ) (l : Line) → line_bytes level (spacing {X = ℕ} level false l).1 ≡ []
 unfolding line_bytes spacing rules.target
@@ -199,29 +199,29 @@ reframed style v {p} h f i =
       indent_kept = r.indent_kept;
     }
 
-module _ (s : List ℕ) (start to : ℕ) {r : ℕ} (h : start ≤ to) (l : to ≤ length s) (t : TextFrom (take (to _ start) (drop start s)) r) where
+module _ (s : List ℕ) (start to : ℕ) {r : ℕ} (h : start ≤ to) (l : to ≤ length s) (t : TextFrom (take (to - start) (drop start s)) r) where
   pub begins_within : start + r ≤ to
   begins_within = omega (arith, long s start to l, t.inside, h)
 
-  pub short_text : {p p' : Pen} {page page' : List ℕ} → OneLine (take (to _ (start + r)) (drop (start + r) s)) → form p ≡ F.TheVariants.Plain
-      → Interpreted Op.AppendToLine (take (to _ (start + r)) (drop (start + r) s)) p page p' page' → Rendered (run_in (take (to _ start) (drop start s))) p page p' page'
+  pub short_text : {p p' : Pen} {page page' : List ℕ} → OneLine (take (to - (start + r)) (drop (start + r) s)) → form p ≡ F.TheVariants.Plain
+      → Interpreted Op.AppendToLine (take (to - (start + r)) (drop (start + r) s)) p page p' page' → Rendered (run_in (take (to - start) (drop start s))) p page p' page'
   short_text o f i =
       let any : start + r < to = omega (arith, o.any, long s (start + r) to l) in
-      rw (t.is (omega (arith, any, long s start to l)), behind s start to r begins_within, o.line) (reframed t.style (take (to _ (start + r)) (drop (start + r) s)) o.any f i)
+      rw (t.is (omega (arith, any, long s start to l)), behind s start to r begins_within, o.line) (reframed t.style (take (to - (start + r)) (drop (start + r) s)) o.any f i)
 
   pub begins_at : BeginsAt s start (start + r) to
-  begins_at = let e : r ≡ start + r _ start = omega arith in record { behind = omega arith; within = begins_within; begins = rw e at t }
+  begins_at = let e : r ≡ start + r - start = omega arith in record { behind = omega arith; within = begins_within; begins = rw e at t }
 
-pub longer_text : {s : List ℕ} {start from to : ℕ} {p p' : Pen} {page page' : List ℕ} → start ≤ to → to ≤ length s → BeginsAt s start from to → OneLine (take (to _ from) (drop from s)) → form p ≡ F.TheVariants.Plain
-    → Interpreted Op.AppendToLine (take (to _ from) (drop from s)) p page p' page' → Rendered (run_in (take (to _ start) (drop start s))) p page p' page'
+pub longer_text : {s : List ℕ} {start from to : ℕ} {p p' : Pen} {page page' : List ℕ} → start ≤ to → to ≤ length s → BeginsAt s start from to → OneLine (take (to - from) (drop from s)) → form p ≡ F.TheVariants.Plain
+    → Interpreted Op.AppendToLine (take (to - from) (drop from s)) p page p' page' → Rendered (run_in (take (to - start) (drop start s))) p page p' page'
 longer_text {s} {start} {from} {to} h l b o f i =
-    let e : from ≡ start + (from _ start) = omega (arith, b.behind) in short_text s start to h l b.begins (rw e at o) f (rw e at i)
+    let e : from ≡ start + (from - start) = omega (arith, b.behind) in short_text s start to h l b.begins (rw e at o) f (rw e at i)
 
 -- the same behind a header that is there
-pub run_within : (s : List ℕ) (at to : ℕ) {r : ℕ} → 3 ≤ to _ at → to ≤ length s → TextFrom (take (to _ (at + 3)) (drop (at + 3) s)) r → at + 3 + r ≤ to
+pub run_within : (s : List ℕ) (at to : ℕ) {r : ℕ} → 3 ≤ to - at → to ≤ length s → TextFrom (take (to - (at + 3)) (drop (at + 3) s)) r → at + 3 + r ≤ to
 run_within s at to h l t = begins_within s (at + 3) to (omega (arith, h)) l t
 
-pub short_run : (s : List ℕ) (at to : ℕ) {r : ℕ} {p p' : Pen} {page page' : List ℕ} → 3 ≤ to _ at → to ≤ length s → TextFrom (take (to _ (at + 3)) (drop (at + 3) s)) r
-    → OneLine (take (to _ (at + 3 + r)) (drop (at + 3 + r) s)) → form p ≡ F.TheVariants.Plain
-    → Interpreted Op.AppendToLine (take (to _ (at + 3 + r)) (drop (at + 3 + r) s)) p page p' page' → Rendered (run_field_in (take (to _ at) (drop at s))) p page p' page'
+pub short_run : (s : List ℕ) (at to : ℕ) {r : ℕ} {p p' : Pen} {page page' : List ℕ} → 3 ≤ to - at → to ≤ length s → TextFrom (take (to - (at + 3)) (drop (at + 3) s)) r
+    → OneLine (take (to - (at + 3 + r)) (drop (at + 3 + r) s)) → form p ≡ F.TheVariants.Plain
+    → Interpreted Op.AppendToLine (take (to - (at + 3 + r)) (drop (at + 3 + r) s)) p page p' page' → Rendered (run_field_in (take (to - at) (drop at s))) p page p' page'
 short_run s at to h l t o f i = whole_run s at to l h (short_text s (at + 3) to (omega (arith, h)) l t o f i)

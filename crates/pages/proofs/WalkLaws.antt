@@ -24,16 +24,16 @@ node_is choice (suc left) directly at h = refl
 -- a node whose whole field stands at..to in s, which stands at `base`
 module _ (ws : List ℕ) (left : ℕ) (directly : Bool) (base : ℕ) (s : List ℕ) (at to : ℕ) (l : to ≤ length s) where
   abbrev whole : List ℕ
-  whole = take (to _ at) (drop at s)
+  whole = take (to - at) (drop at s)
 
   abbrev node : Ops
   node = node_in (marked ws) left directly (base + at) whole
 
-  pub cut_node : {p : Pen} {page : List ℕ} → to _ at < 3 → Rendered node p page p page
+  pub cut_node : {p : Pen} {page : List ℕ} → to - at < 3 → Rendered node p page p page
   unfolding node_by
   cut_node h = rw (node_is (marked ws) left directly (base + at) whole, lt-leb 3 (length whole) (rw (long s at to l) h)) nothing
 
-  module _ (w : 3 ≤ to _ at) {t : ℕ} (e : get_or s at 0 ≡ t) where
+  module _ (w : 3 ≤ to - at) {t : ℕ} (e : get_or s at 0 ≡ t) where
     by_tag : node ≡ (if eqb t 3 then three_in (marked ws) left (base + at) whole else if eqb t 4 then four_in (marked ws) left (base + at) whole else leaf_in directly t (drop 3 whole))
     unfolding node_by
     by_tag = node_is (marked ws) left directly (base + at) whole ∙ rw (le-leb 3 (length whole) (rw (long s at to l) w), first s at to (omega (arith, w)) ∙ e) refl
@@ -44,7 +44,7 @@ module _ (ws : List ℕ) (left : ℕ) (directly : Bool) (base : ℕ) (s : List �
     pub node_four : {p p' : Pen} {page page' : List ℕ} → t ≡ 4 → Rendered (four_in (marked ws) left (base + at) whole) p page p' page' → Rendered node p page p' page'
     node_four q r = rw (by_tag, q) r
 
-    pub node_leaf : {p p' : Pen} {page page' : List ℕ} → (t ≡ 3 → ⊥) → (t ≡ 4 → ⊥) → Rendered (leaf_in directly t (take (to _ (at + 3)) (drop (at + 3) s))) p page p' page'
+    pub node_leaf : {p p' : Pen} {page page' : List ℕ} → (t ≡ 3 → ⊥) → (t ≡ 4 → ⊥) → Rendered (leaf_in directly t (take (to - (at + 3)) (drop (at + 3) s))) p page p' page'
         → Rendered node p page p' page'
     node_leaf n3 n4 r = rw (by_tag, ne_eqb t 3 n3, ne_eqb t 4 n4, behind s at to 3 (omega (arith, w))) r
 
@@ -59,26 +59,26 @@ module _ (ws : List ℕ) (left at : ℕ) (h : List ℕ) {c : Bool} (e : c ≡ ma
       go zero r = r
       go (suc left) r = rw (sym e ∙ q) r
 
-  pub a_four : c ≡ false → (left ≡ 0 → ⊥) → Rendered (fragments_by false (node_in (marked ws) (left _ 1) false) at h) p page p' page' → Rendered (four_in (marked ws) left at h) p page p' page'
+  pub a_four : c ≡ false → (left ≡ 0 → ⊥) → Rendered (fragments_by false (node_in (marked ws) (left - 1) false) at h) p page p' page' → Rendered (four_in (marked ws) left at h) p page p' page'
   unfolding four_in
   a_four q n r = go left n r
     where
-      go : (left : ℕ) → (left ≡ 0 → ⊥) → Rendered (fragments_by false (node_in (marked ws) (left _ 1) false) at h) p page p' page' → Rendered (four_in (marked ws) left at h) p page p' page'
+      go : (left : ℕ) → (left ≡ 0 → ⊥) → Rendered (fragments_by false (node_in (marked ws) (left - 1) false) at h) p page p' page' → Rendered (four_in (marked ws) left at h) p page p' page'
       go zero n r = absurd (n refl)
-      go (suc left) n r = let k : suc left _ 1 ≡ left = omega arith in rw (sym e ∙ q) (rw k at r)
+      go (suc left) n r = let k : suc left - 1 ≡ left = omega arith in rw (sym e ∙ q) (rw k at r)
 
 -- a part of s stands in the file where s does
-pub part_within : (base : ℕ) (s : List ℕ) (at to : ℕ) → at ≤ to → to ≤ length s → base + length s ≤ most_bytes → base + at + length (take (to _ at) (drop at s)) ≤ most_bytes
+pub part_within : (base : ℕ) (s : List ℕ) (at to : ℕ) → at ≤ to → to ≤ length s → base + length s ≤ most_bytes → base + at + length (take (to - at) (drop at s)) ≤ most_bytes
 part_within base s at to a l h = omega (arith, long s at to l, h, a)
 
 -- ---- an indented block
 
 pub a_three : (ws : List ℕ) (left at : ℕ) (h : List ℕ) {p p' : Pen} {n n₁ n₂ : ℕ} {page page' : List ℕ} → (left ≡ 0 → ⊥) → Unseen indent p.state n₁ → Unseen (break a_newline) n₁ n₂
-    → Rendered (fragments_by true (node_in (marked ws) (left _ 1) true) at h) (record { at = p.at; state = n₂ }) page p' page' → Unseen unindent p'.state n
+    → Rendered (fragments_by true (node_in (marked ws) (left - 1) true) at h) (record { at = p.at; state = n₂ }) page p' page' → Unseen unindent p'.state n
     → Rendered (three_in (marked ws) left at h) p page (record { at = p'.at; state = n }) page'
 unfolding three_in indented_by
 a_three ws zero at h z d b r u = absurd (z refl)
-a_three ws (suc left) at h z d b r u = let e : suc left _ 1 ≡ left = omega arith in indented (unseen_ran d) (and_then (break_rendered b) (rw e at r)) (unseen_ran u)
+a_three ws (suc left) at h z d b r u = let e : suc left - 1 ≡ left = omega arith in indented (unseen_ran d) (and_then (break_rendered b) (rw e at r)) (unseen_ran u)
 
 -- ---- the loops
 

@@ -60,7 +60,7 @@ page_of k t = fill itself (rules.shown (page_kind k) (look_of (page_kind k)) new
 
 -- the longest file whose HTML fits in so much room with its frame, whatever the file is
 unfoldable pub longest_for : (room : ℕ) → ℕ
-longest_for room = (room _ html_frame) / html_per_byte
+longest_for room = (room - html_frame) / html_per_byte
 
 -- the frame itself has to fit too; a body goes by the document's
 unfoldable pub html_fits : (n room : ℕ) → Bool

@@ -22,7 +22,7 @@ pub record TextFrom (v : List ℕ) (r : ℕ) : Type 0 where
 pub record BeginsAt (s : List ℕ) (start from to : ℕ) : Type 0 where
   pub behind : start ≤ from
   pub within : from ≤ to
-  pub begins : TextFrom (take (to _ start) (drop start s)) (from _ start)
+  pub begins : TextFrom (take (to - start) (drop start s)) (from - start)
 
 -- the bytes of s at from, .., to - 1
 pub record NoNewline (s : List ℕ) (from to : ℕ) : Type 0 where

@@ -40,7 +40,7 @@ fn render_text(v: &[u8], page: &mut [u8], pen: Pen) -> Pen
 // The value start..to of a 1 on a plain page that is not short. Its text begins at `from`, and is written at once if it is one line.
 fn render_longer(s: &[u8], start: usize, from: usize, to: usize, page: &mut [u8], pen: Pen) -> Pen
     requires { (indent_of pen < 2 ^ 15) × (start ≤ to) × (to ≤ length s.now) × (form pen ≡ Form.Plain) × BeginsAt s.now start from to }
-    ensures { Rendered (run_in (take (to _ start) (drop start s.now))) pen page.old result page.new }
+    ensures { Rendered (run_in (take (to - start) (drop start s.now))) pen page.old result page.new }
 {
     if one_long_line(s, from, to) {
         return plain_part(page, pen, &s[from..to]);
@@ -51,7 +51,7 @@ fn render_longer(s: &[u8], start: usize, from: usize, to: usize, page: &mut [u8]
 // The field at..to of a 2 behind its name. It does what `render_one` does; each has one place where it is called, so that the compiler puts it there.
 fn render_run(v: &[u8], at: usize, to: usize, page: &mut [u8], pen: Pen) -> Pen
     requires { (indent_of pen < 2 ^ 15) × (at ≤ to) × (to ≤ length v.now) }
-    ensures { Rendered (run_field_in (take (to _ at) (drop at v.now))) pen page.old result page.new }
+    ensures { Rendered (run_field_in (take (to - at) (drop at v.now))) pen page.old result page.new }
 {
     if to - at < 3 {
         return pen;
@@ -70,7 +70,7 @@ fn render_run(v: &[u8], at: usize, to: usize, page: &mut [u8], pen: Pen) -> Pen
 // A 1, whose value stands at start..to.
 fn render_one(s: &[u8], start: usize, to: usize, page: &mut [u8], pen: Pen) -> Pen
     requires { (indent_of pen < 2 ^ 15) × (start ≤ to) × (to ≤ length s.now) }
-    ensures { Rendered (run_in (take (to _ start) (drop start s.now))) pen page.old result page.new }
+    ensures { Rendered (run_in (take (to - start) (drop start s.now))) pen page.old result page.new }
 {
     if is_plain(pen.state) {
         let from = start + text_from(&s[start..to]);
@@ -136,7 +136,7 @@ pub fn render_leaf(
     directly_in_block: bool,
 ) -> Pen
     requires { (indent_of pen < 2 ^ 15) × (from ≤ to) × (to ≤ length s.now) }
-    ensures { Rendered (leaf_in directly_in_block tag (take (to _ from) (drop from s.now))) pen page.old result page.new }
+    ensures { Rendered (leaf_in directly_in_block tag (take (to - from) (drop from s.now))) pen page.old result page.new }
 {
     match tag {
         1 => render_one(s, from, to, page, pen),

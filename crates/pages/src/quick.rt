@@ -51,7 +51,7 @@ fn no_newline(s: &[u8], from: usize) -> bool
 // Whether the bytes from..to are some, at most eight, and one line. They are looked at with those before them, so that `false` says nothing.
 pub fn one_line(s: &[u8], from: usize, to: usize) -> bool
     requires { to ≤ length s.now }
-    ensures { result ≡ true → OneLine (take (to _ from) (drop from s.now)) }
+    ensures { result ≡ true → OneLine (take (to - from) (drop from s.now)) }
 {
     if to <= from {
         return false;
@@ -68,7 +68,7 @@ pub fn one_line(s: &[u8], from: usize, to: usize) -> bool
 // The same of a longer text, by windows inside it, of which the last ends with it.
 pub fn one_long_line(s: &[u8], from: usize, to: usize) -> bool
     requires { (from ≤ to) × (to ≤ length s.now) }
-    ensures { result ≡ true → OneLine (take (to _ from) (drop from s.now)) }
+    ensures { result ≡ true → OneLine (take (to - from) (drop from s.now)) }
 {
     if to - from < 8 {
         return false;

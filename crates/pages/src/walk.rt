@@ -26,7 +26,7 @@ fn render_node(
     base: usize,
 ) -> Pen
     requires { (indent_of pen + left < 2 ^ 15) × (at ≤ to) × (to ≤ length s.now) × (base + length s.now ≤ most_bytes) }
-    ensures { Rendered (node_in (marked marks.now) left directly_in_block (base + at) (take (to _ at) (drop at s.now))) pen page.old result page.new }
+    ensures { Rendered (node_in (marked marks.now) left directly_in_block (base + at) (take (to - at) (drop at s.now))) pen page.old result page.new }
 {
     if to - at < 3 {
         return pen;

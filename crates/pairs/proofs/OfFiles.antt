@@ -71,17 +71,17 @@ enters t from to h e = rw e
 -- ---- which bytes stand in texts
 
 flags_are : (i : Fields ℕ) (h : Holder) (d before : ℕ) → Good h d before i → (n : ℕ) → count i ≤ n → (a b : List ℕ)
-    → flags_from n (a ++ (encode_fields i ++ b)) (length a) ≡ in_texts i ++ flags_from (n _ count i) (a ++ (encode_fields i ++ b)) (length a + length (encode_fields i))
+    → flags_from n (a ++ (encode_fields i ++ b)) (length a) ≡ in_texts i ++ flags_from (n - count i) (a ++ (encode_fields i ++ b)) (length a + length (encode_fields i))
 unfolding count encode_fields in_texts flags_from flags_past flags_of
-flags_are end h d before G n l a b = let e : n ≡ n _ 0 = omega arith in let f : length a ≡ length a + 0 = omega arith in ap₂ (λ (m p : ℕ). flags_from m (a ++ b) p) e f
+flags_are end h d before G n l a b = let e : n ≡ n - 0 = omega arith in let f : length a ≡ length a + 0 = omega arith in ap₂ (λ (m p : ℕ). flags_from m (a ++ b) p) e f
 flags_are (bytes t v r) h d before G zero l a b = absurd (omega arith)
 flags_are (bytes t v r) h d before G (suc m) l a b =
     let s : List ℕ = a ++ ((field t v ++ encode_fields r) ++ b) in
     let f : field_at s (length a) ≡ Whole t (length a + 3) (length a + 3 + length v) = here_is a t v (encode_fields r) b G.0.fits in
     let p : next_place t (length a + 3) (length a + 3 + length v) ≡ length a + 3 + length v = passes t _ _ G.1 in
-    let n : length a + 3 + length v _ (length a + 3) ≡ length v = omega arith in
-    let more : flags_from m s (length a + 3 + length v) ≡ in_texts r ++ flags_from (m _ count r) s (length a + 3 + length v + length (encode_fields r)) = rw (← behind_is a t v (encode_fields r) b, behind_at a t v [] []) at (flags_are r h d t G.3 m (omega arith) (a ++ field t v) b) in
-    let k : m _ count r ≡ suc m _ suc (count r) = omega arith in
+    let n : length a + 3 + length v - (length a + 3) ≡ length v = omega arith in
+    let more : flags_from m s (length a + 3 + length v) ≡ in_texts r ++ flags_from (m - count r) s (length a + 3 + length v + length (encode_fields r)) = rw (← behind_is a t v (encode_fields r) b, behind_at a t v [] []) at (flags_are r h d t G.3 m (omega arith) (a ++ field t v) b) in
+    let k : m - count r ≡ suc m - suc (count r) = omega arith in
     let q : length a + 3 + length v + length (encode_fields r) ≡ length a + length (field t v ++ encode_fields r) = omega (arith, field_long t v (encode_fields r)) in
     rw (f, p, n) (ap (λ (x : List Bool). false ∷ false ∷ false ∷ (replicate (length v) (is_text t) ++ x)) (more ∙ ap₂ (λ (j o : ℕ). in_texts r ++ flags_from j s o) k q)
     ∙ ap (λ (x : List Bool). false ∷ false ∷ false ∷ x) (sym (append_assoc (replicate (length v) (is_text t)) (in_texts r) _)))
@@ -91,10 +91,10 @@ flags_are (inside t i r) h d before G (suc m) l a b =
     let s : List ℕ = a ++ ((field t v ++ encode_fields r) ++ b) in
     let f : field_at s (length a) ≡ Whole t (length a + 3) (length a + 3 + length v) = here_is a t v (encode_fields r) b G.0.fits in
     let p : next_place t (length a + 3) (length a + 3 + length v) ≡ length a + 3 = enters t _ _ G.1.0 G.1.1 in
-    let n : length a + 3 _ (length a + 3) ≡ 0 = omega arith in
-    let within : flags_from m s (length a + 3) ≡ in_texts i ++ flags_from (m _ count i) s (length a + 3 + length v) = rw (← inside_is a t v (encode_fields r) b, inside_at a t v [] []) at (flags_are i G.1.0 _ 0 G.1.3 m (omega arith) (a ++ head t v) (encode_fields r ++ b)) in
-    let more : flags_from (m _ count i) s (length a + 3 + length v) ≡ in_texts r ++ flags_from (m _ count i _ count r) s (length a + 3 + length v + length (encode_fields r)) = rw (← behind_is a t v (encode_fields r) b, behind_at a t v [] []) at (flags_are r h d t G.2 (m _ count i) (omega arith) (a ++ field t v) b) in
-    let k : m _ count i _ count r ≡ suc m _ suc (count i + count r) = omega arith in
+    let n : length a + 3 - (length a + 3) ≡ 0 = omega arith in
+    let within : flags_from m s (length a + 3) ≡ in_texts i ++ flags_from (m - count i) s (length a + 3 + length v) = rw (← inside_is a t v (encode_fields r) b, inside_at a t v [] []) at (flags_are i G.1.0 _ 0 G.1.3 m (omega arith) (a ++ head t v) (encode_fields r ++ b)) in
+    let more : flags_from (m - count i) s (length a + 3 + length v) ≡ in_texts r ++ flags_from (m - count i - count r) s (length a + 3 + length v + length (encode_fields r)) = rw (← behind_is a t v (encode_fields r) b, behind_at a t v [] []) at (flags_are r h d t G.2 (m - count i) (omega arith) (a ++ field t v) b) in
+    let k : m - count i - count r ≡ suc m - suc (count i + count r) = omega arith in
     let q : length a + 3 + length v + length (encode_fields r) ≡ length a + length (field t v ++ encode_fields r) = omega (arith, field_long t v (encode_fields r)) in
     rw (f, p, n) (ap (λ (x : List Bool). false ∷ false ∷ false ∷ x) (within ∙ ap (in_texts i ++◌) (more ∙ ap₂ (λ (j o : ℕ). in_texts r ++ flags_from j s o) k q)
     ∙ sym (append_assoc (in_texts i) (in_texts r) _)))
@@ -114,8 +114,8 @@ flags_of_file s t bs e =
     let x : encode_fields i ++ [] ≡ s = append-nil (encode_fields i) ∙ R.encodes in
     let l : length (encode_fields i) ≡ length s = ap length R.encodes in
     let c : count i ≤ length s = omega (arith, count_within i, l) in
-    let f : flags_from (length s) s 0 ≡ in_texts i ++ flags_from (length s _ count i) s (length s) = rw (x, l, zero-add) at (flags_are i _ 0 0 R.good.good (length s) c [] []) in
-    f ∙ ap (in_texts i ++◌) (none_behind (length s _ count i) s) ∙ append-nil (in_texts i) ∙ rw R.checked refl
+    let f : flags_from (length s) s 0 ≡ in_texts i ++ flags_from (length s - count i) s (length s) = rw (x, l, zero-add) at (flags_are i _ 0 0 R.good.good (length s) c [] []) in
+    f ∙ ap (in_texts i ++◌) (none_behind (length s - count i) s) ∙ append-nil (in_texts i) ∙ rw R.checked refl
 
 -- ---- the text at a place
 
@@ -145,18 +145,18 @@ chosen false v x y z e = e
 
 lengths_are : (i : Fields ℕ) (h : Holder) (d before : ℕ) → Good h d before i → (n : ℕ) → count i ≤ n → (a b : List ℕ) (p : ℕ)
     → length_from n (a ++ (encode_fields i ++ b)) (length a) p
-    ≡ or_else (length_in (text_in i (length a) p)) (length_from (n _ count i) (a ++ (encode_fields i ++ b)) (length a + length (encode_fields i)) p)
+    ≡ or_else (length_in (text_in i (length a) p)) (length_from (n - count i) (a ++ (encode_fields i ++ b)) (length a + length (encode_fields i)) p)
 unfolding count encode_fields text_in length_in or_else length_from length_past
-lengths_are end h d before G n l a b p = let e : n ≡ n _ 0 = omega arith in let f : length a ≡ length a + 0 = omega arith in ap₂ (λ (m o : ℕ). length_from m (a ++ b) o p) e f
+lengths_are end h d before G n l a b p = let e : n ≡ n - 0 = omega arith in let f : length a ≡ length a + 0 = omega arith in ap₂ (λ (m o : ℕ). length_from m (a ++ b) o p) e f
 lengths_are (bytes t v r) h d before G zero l a b p = absurd (omega arith)
 lengths_are (bytes t v r) h d before G (suc m) l a b p =
     let s : List ℕ = a ++ ((field t v ++ encode_fields r) ++ b) in
     let f : field_at s (length a) ≡ Whole t (length a + 3) (length a + 3 + length v) = here_is a t v (encode_fields r) b G.0.fits in
     let g : next_place t (length a + 3) (length a + 3 + length v) ≡ length a + 3 + length v = passes t _ _ G.1 in
-    let n : length a + 3 + length v _ (length a + 3) ≡ length v = omega arith in
+    let n : length a + 3 + length v - (length a + 3) ≡ length v = omega arith in
     let w : length a + (3 + length v) ≡ length a + 3 + length v = omega arith in
-    let more : length_from m s (length a + 3 + length v) p ≡ or_else (length_in (text_in r (length a + 3 + length v) p)) (length_from (m _ count r) s (length a + 3 + length v + length (encode_fields r)) p) = rw (← behind_is a t v (encode_fields r) b, behind_at a t v [] []) at (lengths_are r h d t G.3 m (omega arith) (a ++ field t v) b p) in
-    let k : m _ count r ≡ suc m _ suc (count r) = omega arith in
+    let more : length_from m s (length a + 3 + length v) p ≡ or_else (length_in (text_in r (length a + 3 + length v) p)) (length_from (m - count r) s (length a + 3 + length v + length (encode_fields r)) p) = rw (← behind_is a t v (encode_fields r) b, behind_at a t v [] []) at (lengths_are r h d t G.3 m (omega arith) (a ++ field t v) b p) in
+    let k : m - count r ≡ suc m - suc (count r) = omega arith in
     let q : length a + 3 + length v + length (encode_fields r) ≡ length a + length (field t v ++ encode_fields r) = omega (arith, field_long t v (encode_fields r)) in
     rw (f, g, n, w) (chosen (is_text t && eqb (length a) p) v _ (text_in r (length a + 3 + length v) p) _ (more ∙ ap₂ (λ (j o : ℕ). or_else (length_in (text_in r (length a + 3 + length v) p)) (length_from j s o p)) k q))
 lengths_are (inside t i r) h d before G zero l a b p = absurd (omega arith)
@@ -167,9 +167,9 @@ lengths_are (inside t i r) h d before G (suc m) l a b p =
     let g : next_place t (length a + 3) (length a + 3 + length v) ≡ length a + 3 = enters t _ _ G.1.0 G.1.1 in
     let u : is_text t ≡ false = no_text t G.1.0 G.1.1 in
     let w : length a + (3 + length v) ≡ length a + 3 + length v = omega arith in
-    let within : length_from m s (length a + 3) p ≡ or_else (length_in (text_in i (length a + 3) p)) (length_from (m _ count i) s (length a + 3 + length v) p) = rw (← inside_is a t v (encode_fields r) b, inside_at a t v [] []) at (lengths_are i G.1.0 _ 0 G.1.3 m (omega arith) (a ++ head t v) (encode_fields r ++ b) p) in
-    let more : length_from (m _ count i) s (length a + 3 + length v) p ≡ or_else (length_in (text_in r (length a + 3 + length v) p)) (length_from (m _ count i _ count r) s (length a + 3 + length v + length (encode_fields r)) p) = rw (← behind_is a t v (encode_fields r) b, behind_at a t v [] []) at (lengths_are r h d t G.2 (m _ count i) (omega arith) (a ++ field t v) b p) in
-    let k : m _ count i _ count r ≡ suc m _ suc (count i + count r) = omega arith in
+    let within : length_from m s (length a + 3) p ≡ or_else (length_in (text_in i (length a + 3) p)) (length_from (m - count i) s (length a + 3 + length v) p) = rw (← inside_is a t v (encode_fields r) b, inside_at a t v [] []) at (lengths_are i G.1.0 _ 0 G.1.3 m (omega arith) (a ++ head t v) (encode_fields r ++ b) p) in
+    let more : length_from (m - count i) s (length a + 3 + length v) p ≡ or_else (length_in (text_in r (length a + 3 + length v) p)) (length_from (m - count i - count r) s (length a + 3 + length v + length (encode_fields r)) p) = rw (← behind_is a t v (encode_fields r) b, behind_at a t v [] []) at (lengths_are r h d t G.2 (m - count i) (omega arith) (a ++ field t v) b p) in
+    let k : m - count i - count r ≡ suc m - suc (count i + count r) = omega arith in
     let q : length a + 3 + length v + length (encode_fields r) ≡ length a + length (field t v ++ encode_fields r) = omega (arith, field_long t v (encode_fields r)) in
     rw (f, g, u, w) (within ∙ ap (or_else (length_in (text_in i (length a + 3) p))) (more ∙ ap₂ (λ (j o : ℕ). or_else (length_in (text_in r (length a + 3 + length v) p)) (length_from j s o p)) k q)
     ∙ else_else (text_in i (length a + 3) p) (text_in r (length a + 3 + length v) p) _)
@@ -193,8 +193,8 @@ length_of_file s t p bs e =
     let x : encode_fields i ++ [] ≡ s = append-nil (encode_fields i) ∙ R.encodes in
     let l : length (encode_fields i) ≡ length s = ap length R.encodes in
     let c : count i ≤ length s = omega (arith, count_within i, l) in
-    let f : length_from (length s) s 0 p ≡ or_else (length_in (text_in i 0 p)) (length_from (length s _ count i) s (length s) p) = rw (x, l, zero-add) at (lengths_are i _ 0 0 R.good.good (length s) c [] [] p) in
-    f ∙ ap (or_else (length_in (text_in i 0 p))) (no_length_behind (length s _ count i) s p) ∙ else_none (length_in (text_in i 0 p))
+    let f : length_from (length s) s 0 p ≡ or_else (length_in (text_in i 0 p)) (length_from (length s - count i) s (length s) p) = rw (x, l, zero-add) at (lengths_are i _ 0 0 R.good.good (length s) c [] [] p) in
+    f ∙ ap (or_else (length_in (text_in i 0 p))) (no_length_behind (length s - count i) s p) ∙ else_none (length_in (text_in i 0 p))
 
 -- a text that is found is no longer than all
 length_by : (k : ℕ) (s : List ℕ) (at p n : ℕ) → length_from k s at p ≡ some n → n ≤ length s
@@ -207,7 +207,7 @@ length_by (suc k) s at p n e = go (field_at s at) refl e (λ next q. length_by k
     choose x y false h more e = more e
 
     go : (f : Field) → field_at s at ≡ f → length_past at p (λ next. length_from k s next p) f ≡ some n → ((next : ℕ) → length_from k s next p ≡ some n → n ≤ length s) → n ≤ length s
-    go (Whole t from to) q e more = choose (to _ from) (length_from k s (next_place t from to) p) (is_text t && eqb at p) (omega (arith, (is_whole s at t from to (field_at s at) refl q).ends)) (more (next_place t from to)) e
+    go (Whole t from to) q e more = choose (to - from) (length_from k s (next_place t from to) p) (is_text t && eqb at p) (omega (arith, (is_whole s at t from to (field_at s at) refl q).ends)) (more (next_place t from to)) e
     go (Past t) q e more = no_path (cc)
     go Cut q e more = no_path (cc)
 

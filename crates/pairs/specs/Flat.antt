@@ -25,7 +25,7 @@ next_place t from to = if is_holder t then from else to
 
 -- of a field's bytes up to the next one
 unfoldable pub flags_of : (tag from to : ℕ) → List Bool
-flags_of t from to = false ∷ false ∷ false ∷ replicate (next_place t from to _ from) (is_text t)
+flags_of t from to = false ∷ false ∷ false ∷ replicate (next_place t from to - from) (is_text t)
 
 unfoldable pub flags_past : (further : ℕ → List Bool) → Field → List Bool
 flags_past further (Whole t from to) = flags_of t from to ++ further (next_place t from to)
@@ -43,7 +43,7 @@ flags s = flags_from (length s) s 0
 -- ---- the text at a place
 
 unfoldable pub length_past : (at p : ℕ) → (further : ℕ → Option ℕ) → Field → Option ℕ
-length_past at p further (Whole t from to) = if is_text t && eqb at p then some (to _ from) else further (next_place t from to)
+length_past at p further (Whole t from to) = if is_text t && eqb at p then some (to - from) else further (next_place t from to)
 length_past at p further (Past t) = none
 length_past at p further Cut = none
 

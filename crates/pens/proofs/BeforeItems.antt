@@ -29,7 +29,7 @@ making_either false xs ys = refl
 
 levels_said : (k t : ℕ) → making (levels_bytes k t) ≡ levels {X = ℕ} k t
 unfolding levels levels_bytes
-levels_said k t = making_either (ltb t k) (10 ∷ replicate (2 * t) 32) (replicate (2 * (t _ k)) 32)
+levels_said k t = making_either (ltb t k) (10 ∷ replicate (2 * t) 32) (replicate (2 * (t - k)) 32)
 
 spaced : (level : ℕ) (l : Line) → making (line_bytes level l) ≡ (spacing {X = ℕ} level false l).0
 unfolding spacing line_bytes making rules.target
@@ -95,11 +95,11 @@ plain_ready v w f h w' o = part_ready v w (sym f) h (rw (shown_copies v) w') o
 
 -- ---- a line's bytes, by its number
 
-by_levels : (t l : ℕ) → (l ≡ 1 → ⊥) → line_bytes t (line_numbered l) ≡ levels_bytes (l _ 2) t
+by_levels : (t l : ℕ) → (l ≡ 1 → ⊥) → line_bytes t (line_numbered l) ≡ levels_bytes (l - 2) t
 unfolding line_bytes line_numbered
 by_levels t zero o = refl
 by_levels t (suc zero) o = absurd (o refl)
-by_levels t (suc (suc k)) o = let e : k ≡ suc (suc k) _ 2 = omega arith in ap (λ (k : ℕ). levels_bytes k t) e
+by_levels t (suc (suc k)) o = let e : k ≡ suc (suc k) - 2 = omega arith in ap (λ (k : ℕ). levels_bytes k t) e
 
 module _ (t l : ℕ) {page : List ℕ} {at : ℕ} where
   pub at_text : l ≡ 1 → Written page at (line_bytes t (line_numbered l)) page at
@@ -109,16 +109,16 @@ module _ (t l : ℕ) {page : List ℕ} {at : ℕ} where
   module _ {page' : List ℕ} {r : ℕ} (o : l ≡ 1 → ⊥) where
     pub no_levels : l < 3 → Written page at (replicate (2 * t) 32) page' r → Written page at (line_bytes t (line_numbered l)) page' r
     unfolding levels_bytes
-    no_levels h w = let q : 2 * t ≡ 2 * (t _ (l _ 2)) = omega (arith, h) in rw (by_levels t l o, le-ltb t (l _ 2) (omega (arith, h)), ← q) w
+    no_levels h w = let q : 2 * t ≡ 2 * (t - (l - 2)) = omega (arith, h) in rw (by_levels t l o, le-ltb t (l - 2) (omega (arith, h)), ← q) w
 
-    pub fewer_levels : 3 ≤ l → l ≤ t + 2 → Written page at (replicate (2 * (t + 2 _ l)) 32) page' r → Written page at (line_bytes t (line_numbered l)) page' r
+    pub fewer_levels : 3 ≤ l → l ≤ t + 2 → Written page at (replicate (2 * (t + 2 - l)) 32) page' r → Written page at (line_bytes t (line_numbered l)) page' r
     unfolding levels_bytes
-    fewer_levels g h w = let q : 2 * (t + 2 _ l) ≡ 2 * (t _ (l _ 2)) = omega (arith, h, g) in rw (by_levels t l o, le-ltb t (l _ 2) (omega (arith, h)), ← q) w
+    fewer_levels g h w = let q : 2 * (t + 2 - l) ≡ 2 * (t - (l - 2)) = omega (arith, h, g) in rw (by_levels t l o, le-ltb t (l - 2) (omega (arith, h)), ← q) w
 
   pub too_many : {page₁ page' : List ℕ} {b r : ℕ} → t + 2 < l → Written page at (10 ∷ []) page₁ b → Written page₁ b (replicate (2 * t) 32) page' r
       → Written page at (line_bytes t (line_numbered l)) page' r
   unfolding levels_bytes
-  too_many h w w' = rw (by_levels t l (λ o. omega (arith, o, h)), lt-ltb t (l _ 2) (omega (arith, h))) (writing.then w w')
+  too_many h w w' = rw (by_levels t l (λ o. omega (arith, o, h)), lt-ltb t (l - 2) (omega (arith, h))) (writing.then w w')
 
 -- ---- the waiting break, by its number
 

@@ -98,9 +98,9 @@ module _ (n b : ℕ) (counts : ignored (machine_in n).level (machine_in n).line 
         form_kept = ap form_numbered f;
       }
 
-  pub break_more : b < 3 → (n / 262144) % 4 < b → Unseen (break (break_numbered b)) n (n + (b _ (n / 262144) % 4) * 262144)
+  pub break_more : b < 3 → (n / 262144) % 4 < b → Unseen (break (break_numbered b)) n (n + (b - (n / 262144) % 4) * 262144)
   break_more h l =
-      let d = b _ (n / 262144) % 4 in
+      let d = b - (n / 262144) % 4 in
       let over : (n + d * 262144) / 262144 ≡ n / 262144 + d = more_waiting n d in
       let w : ((n + d * 262144) / 262144) % 4 ≡ b = rw over (omega (arith, h, l)) in
       let line : (n + d * 262144) / 1048576 ≡ n / 1048576 =
@@ -131,8 +131,8 @@ module _ (n : ℕ) where
       let l : suc (n % 65536) ≡ (n + 1) % 65536 = omega (arith, h) in
       level_moved indent n (n + 1) (omega (arith, h)) (λ j. ([], record { level = l j; line = line_numbered (n / 1048576); waiting = waiting_numbered ((n / 262144) % 4) }))
 
-  pub one_less : 0 < (machine_in n).level → Unseen unindent n (n _ 1)
+  pub one_less : 0 < (machine_in n).level → Unseen unindent n (n - 1)
   unfolding step machine_in
   one_less h =
-      let l : pred (n % 65536) ≡ (n _ 1) % 65536 = sym (sub-one (n % 65536)) ∙ omega (arith, h) in
-      level_moved unindent n (n _ 1) (omega (arith, h)) (λ j. ([], record { level = l j; line = line_numbered (n / 1048576); waiting = waiting_numbered ((n / 262144) % 4) }))
+      let l : pred (n % 65536) ≡ (n - 1) % 65536 = sym (sub-one (n % 65536)) ∙ omega (arith, h) in
+      level_moved unindent n (n - 1) (omega (arith, h)) (λ j. ([], record { level = l j; line = line_numbered (n / 1048576); waiting = waiting_numbered ((n / 262144) % 4) }))

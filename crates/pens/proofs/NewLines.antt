@@ -23,7 +23,7 @@ module _ {v : List ℕ} {p p' : Pen} {page page' : List ℕ} where
 -- the indent stands before a part there
 fresh_bytes : (m : Machine) → m.line ≡ empty → m.waiting ≡ none → ready_bytes m ≡ replicate (2 * m.level) 32
 unfolding ready_bytes line_then release waiting_bytes line_bytes levels_bytes
-fresh_bytes m e w = let k : m.level _ 0 ≡ m.level = omega arith in rw (w, e, le-ltb m.level 0 (omega arith), k)
+fresh_bytes m e w = let k : m.level - 0 ≡ m.level = omega arith in rw (w, e, le-ltb m.level 0 (omega arith), k)
 
 pub fresh_part : (v : List ℕ) {p p' : Pen} {page page₁ page₂ : List ℕ} {b : ℕ} {g : F.Form} → Fresh p.state → Written page p.at (replicate (2 * (p.state % 65536)) 32) page₁ b → g ≡ form p
     → 0 < length v → Written page₁ b (shown g (copies v)) page₂ p'.at → (machine p' ≡ on_line (machine p) (line_numbered 1)) × (form p' ≡ form p) → Interpreted Op.AppendToLine v p page p' page₂

@@ -42,10 +42,10 @@ pub first_taken : (v : List ℕ) {n : ℕ} → n ≡ first_long v → n ≡ leng
 first_taken v {n} e = omega (arith, first_ends v e, length-take n v)
 
 -- behind the byte at `at`
-next_ends : (v : List ℕ) (at : ℕ) {n : ℕ} → at < length v → n ≡ first_long (take (length v _ (at + 1)) (drop (at + 1) v)) → at + 1 + n ≤ length v
+next_ends : (v : List ℕ) (at : ℕ) {n : ℕ} → at < length v → n ≡ first_long (take (length v - (at + 1)) (drop (at + 1) v)) → at + 1 + n ≤ length v
 next_ends v at h e =
     let s : List ℕ = drop (at + 1) v in
-    omega (arith, first_ends (take (length v _ (at + 1)) s) e, length-take (length v _ (at + 1)) s, length-drop (at + 1) v)
+    omega (arith, first_ends (take (length v - (at + 1)) s) e, length-take (length v - (at + 1)) s, length-drop (at + 1) v)
 
 -- ---- the later lines
 
@@ -55,15 +55,15 @@ unfolding later_in
 behind v at h = rw (drop-cons v at 0 h, ← (add-one at)) refl
 
 -- the code's slice behind it is all that is left
-rest : (v : List ℕ) (at : ℕ) → take (length v _ (at + 1)) (drop (at + 1) v) ≡ drop (at + 1) v
-rest v at = take_all (length v _ (at + 1)) (drop (at + 1) v) (omega (arith, length-drop (at + 1) v))
+rest : (v : List ℕ) (at : ℕ) → take (length v - (at + 1)) (drop (at + 1) v) ≡ drop (at + 1) v
+rest v at = take_all (length v - (at + 1)) (drop (at + 1) v) (omega (arith, length-drop (at + 1) v))
 
 module _ (v : List ℕ) (at : ℕ) {p : Pen} {page : List ℕ} where
   pub none_later : length v ≤ at → Rendered (later_in (drop at v)) p page p page
   unfolding later_in
   none_later h = by nothing (sym (rw (drop_of_length-le v h)))
 
-  pub one_later : {p' : Pen} {page' : List ℕ} → at < length v → Rendered (new_line ∷ text_ops newline (take (length v _ (at + 1)) (drop (at + 1) v))) p page p' page' → Rendered (later_in (drop at v)) p page p' page'
+  pub one_later : {p' : Pen} {page' : List ℕ} → at < length v → Rendered (new_line ∷ text_ops newline (take (length v - (at + 1)) (drop (at + 1) v))) p page p' page' → Rendered (later_in (drop at v)) p page p' page'
   one_later h f = by f (sym (behind v at h ∙ ap (λ (s : List ℕ). new_line ∷ text_ops newline s) (sym (rest v at))))
 
 pub first_and_later : (v : List ℕ) {n : ℕ} {p p₁ p₂ : Pen} {page page₁ page₂ : List ℕ} → n ≡ first_long v → Interpreted Op.AppendToLine (take n v) p page p₁ page₁
@@ -88,15 +88,15 @@ line_behind : (v : List ℕ) (at n : ℕ) → at < length v → n ≡ first_long
 line_behind v at n h e = behind v at h ∙ ap (λ (os : Ops). new_line ∷ os) (text_line (drop (at + 1) v) n e ∙ ap (λ (s : List ℕ). part (take n (drop (at + 1) v)) ∷ later_in s) (drop-drop n (at + 1) v))
 
 module _ {v : List ℕ} {at₀ : ℕ} {p₀ : Pen} {page₀ : List ℕ} {at : ℕ} {p : Pen} {page : List ℕ} (l : LinesDone v at₀ p₀ page₀ at p page) where
-  pub next_within : {n : ℕ} → at < length v → n ≡ first_long (take (length v _ (at + 1)) (drop (at + 1) v)) → at + 1 + n ≤ length v
+  pub next_within : {n : ℕ} → at < length v → n ≡ first_long (take (length v - (at + 1)) (drop (at + 1) v)) → at + 1 + n ≤ length v
   next_within h e = omega (arith, first_ends (drop (at + 1) v) (e ∙ ap first_long (rest v at)), length-drop (at + 1) v)
 
-  pub lines_more : {n : ℕ} {w : List ℕ} {p₁ p₂ : Pen} {page₁ page₂ : List ℕ} → at < length v → n ≡ first_long (take (length v _ (at + 1)) (drop (at + 1) v))
-      → Interpreted Op.StartNewLine w p page p₁ page₁ → Interpreted Op.AppendToLine (take (at + 1 + n _ (at + 1)) (drop (at + 1) v)) p₁ page₁ p₂ page₂
+  pub lines_more : {n : ℕ} {w : List ℕ} {p₁ p₂ : Pen} {page₁ page₂ : List ℕ} → at < length v → n ≡ first_long (take (length v - (at + 1)) (drop (at + 1) v))
+      → Interpreted Op.StartNewLine w p page p₁ page₁ → Interpreted Op.AppendToLine (take (at + 1 + n - (at + 1)) (drop (at + 1) v)) p₁ page₁ p₂ page₂
       → LinesDone v at₀ p₀ page₀ (at + 1 + n) p₂ page₂
   unfolding operation
   lines_more {n} h e f g =
-      let k : at + 1 + n _ (at + 1) ≡ n = omega arith in
+      let k : at + 1 + n - (at + 1) ≡ n = omega arith in
       let os : Ops = new_line ∷ part (take n (drop (at + 1) v)) ∷ [] in
       record {
         done = l.done ++ os;

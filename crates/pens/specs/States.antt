@@ -70,7 +70,7 @@ waiting_bytes (some rules.a_newline) = 10 ∷ []
 
 -- from k levels to t
 unfoldable pub levels_bytes : (k t : ℕ) → List ℕ
-levels_bytes k t = if ltb t k then 10 ∷ replicate (2 * t) 32 else replicate (2 * (t _ k)) 32
+levels_bytes k t = if ltb t k then 10 ∷ replicate (2 * t) 32 else replicate (2 * (t - k)) 32
 
 -- a line without text is brought to the indent
 unfoldable pub line_bytes : (level : ℕ) → rules.Line → List ℕ

@@ -34,20 +34,20 @@ module _ (wanted : Wanted) (width : ℕ) (file page : List ℕ) {a : Answer} {fi
 
 -- the file is lent from the third byte on, and put back there
 pub asked_laid : (wanted : Wanted) (input page : List ℕ) {a b : ℕ} {ys page' : List ℕ} → 2 ≤ length input → a ≡ get_or input 0 0 → b ≡ get_or input 1 0
-    → (ys, page') ≡ laid_at wanted (a * 256 + b) (take (length input _ 2) (drop 2 input)) page
-    → (take 2 input ++ (ys ++ drop (length input _ 2) (drop 2 input)), page') ≡ asked wanted input page
+    → (ys, page') ≡ laid_at wanted (a * 256 + b) (take (length input - 2) (drop 2 input)) page
+    → (take 2 input ++ (ys ++ drop (length input - 2) (drop 2 input)), page') ≡ asked wanted input page
 unfolding asked behind_width
 asked_laid wanted input page {a} {b} {ys} {page'} l p q e =
-    let all : take (length input _ 2) (drop 2 input) ≡ drop 2 input = take_all (length input _ 2) (drop 2 input) (omega (arith, length-drop 2 input)) in
-    let none : drop (length input _ 2) (drop 2 input) ≡ [] = drop_of_length-le (drop 2 input) {i = length input _ 2} (omega (arith, length-drop 2 input)) in
+    let all : take (length input - 2) (drop 2 input) ≡ drop 2 input = take_all (length input - 2) (drop 2 input) (omega (arith, length-drop 2 input)) in
+    let none : drop (length input - 2) (drop 2 input) ≡ [] = drop_of_length-le (drop 2 input) {i = length input - 2} (omega (arith, length-drop 2 input)) in
     let e' : (ys, page') ≡ laid_at wanted (a * 256 + b) (drop 2 input) page = rw all at e in
     rw (le-leb 2 (length input) l, none, append-nil ys, ← p, ← q) (ap (behind_width input) e')
 
 -- in one call that only reads the input
 pub asked_plainly : (input page : List ℕ) {a b : ℕ} {x : Result ℕ} {page' : List ℕ} → 2 ≤ length input → a ≡ get_or input 0 0 → b ≡ get_or input 1 0
-    → (x, page') ≡ print_outcome (a * 256 + b) (take (length input _ 2) (drop 2 input)) page → page' ≡ plainly_asked input page
+    → (x, page') ≡ print_outcome (a * 256 + b) (take (length input - 2) (drop 2 input)) page → page' ≡ plainly_asked input page
 unfolding plainly_asked
 asked_plainly input page {a} {b} {x} {page'} l p q e =
-    let all : take (length input _ 2) (drop 2 input) ≡ drop 2 input = take_all (length input _ 2) (drop 2 input) (omega (arith, length-drop 2 input)) in
+    let all : take (length input - 2) (drop 2 input) ≡ drop 2 input = take_all (length input - 2) (drop 2 input) (omega (arith, length-drop 2 input)) in
     let e' : (x, page') ≡ print_outcome (a * 256 + b) (drop 2 input) page = rw all at e in
     rw (le-leb 2 (length input) l, ← p, ← q) (ap (λ (o : Result ℕ × List ℕ). o.1) e')

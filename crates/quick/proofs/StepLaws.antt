@@ -20,10 +20,10 @@ or_true : (b : Bool) → (b || true) ≡ true
 or_true true = refl
 or_true false = refl
 
-pub in_field : (b : List ℕ) (at top : ℕ) {r : ℕ} → at ≤ most_bytes → at ≤ length b → (top ≡ 0 → ⊥) → top + 2 ≤ at → r ≡ get_or b (top _ 1) 0 → (sane (length b) at top ≡ true) × (r ≡ code_at b top)
+pub in_field : (b : List ℕ) (at top : ℕ) {r : ℕ} → at ≤ most_bytes → at ≤ length b → (top ≡ 0 → ⊥) → top + 2 ≤ at → r ≡ get_or b (top - 1) 0 → (sane (length b) at top ≡ true) × (r ≡ code_at b top)
 unfolding sane code_at
 in_field b at zero h k z l e = absurd (z refl)
-in_field b at (suc p) h k z l e = let q : suc p _ 1 ≡ p = omega arith in (rw (le-leb at most_bytes h, le-leb at (length b) k, le-leb (suc p + 2) at l) (or_true (eqb (suc p) 0)), e ∙ ap (λ (i : ℕ). get_or b i 0) q)
+in_field b at (suc p) h k z l e = let q : suc p - 1 ≡ p = omega arith in (rw (le-leb at most_bytes h, le-leb at (length b) k, le-leb (suc p + 2) at l) (or_true (eqb (suc p) 0)), e ∙ ap (λ (i : ℕ). get_or b i 0) q)
 
 -- ---- the step by its plan
 

@@ -21,7 +21,7 @@ six_bytes v l a b c =
     rw (l, ← first, ← none_left, long)
 
 -- the six bytes of a part, as the code tests them
-pub colour_said : (s : List ℕ) (from to : ℕ) → from ≤ to → to ≤ length s → to _ from ≡ 6 → get_or s from 0 ≡ 32 → get_or s (from + 1) 0 ≡ 0
+pub colour_said : (s : List ℕ) (from to : ℕ) → from ≤ to → to ≤ length s → to - from ≡ 6 → get_or s from 0 ≡ 32 → get_or s (from + 1) 0 ≡ 0
     → Says (eqb (get_or s (from + 2) 0) 3) (10 ≡ byte_width (effective (styles_in (part s from to))))
 colour_said s from to l h n a b =
     let v : List ℕ = part s from to in

@@ -65,7 +65,7 @@ from_any (suc n) (x ∷ s) h k = either (newline x) (from_any n s h 0) (from_any
 -- the loop stands at n, and there is no newline from n on
 pub record Unbroken (v : List ℕ) (n : ℕ) : Type 0 where
   pub inside : n ≤ length v
-  pub counted : (k : ℕ) → last_from k (drop n v) ≡ k + (length v _ n)
+  pub counted : (k : ℕ) → last_from k (drop n v) ≡ k + (length v - n)
 
 pub none_seen : (v : List ℕ) → Unbroken v (length v)
 unfolding last_from
@@ -75,20 +75,20 @@ none_seen v = record {
 }
 
 module _ {v : List ℕ} {n : ℕ} (u : Unbroken v n) (h : 0 < n) where
-  one_back : drop (n _ 1) v ≡ get_or v (n _ 1) 0 ∷ drop n v
+  one_back : drop (n - 1) v ≡ get_or v (n - 1) 0 ∷ drop n v
   one_back =
-      let e : suc (n _ 1) ≡ n = omega arith in
-      rw e at (drop-cons v (n _ 1) 0 (omega (arith, u.inside)))
+      let e : suc (n - 1) ≡ n = omega arith in
+      rw e at (drop-cons v (n - 1) 0 (omega (arith, u.inside)))
 
-  pub newline_seen : get_or v (n _ 1) 0 ≡ 10 → length v _ n ≡ last_long v
+  pub newline_seen : get_or v (n - 1) 0 ≡ 10 → length v - n ≡ last_long v
   unfolding last_from newline
-  newline_seen e = sym (from_any (n _ 1) v (λ k. rw (one_back, eq-eqb (get_or v (n _ 1) 0) 10 e) (omega (arith, u.counted 0))) 0) ∙ last_is v
+  newline_seen e = sym (from_any (n - 1) v (λ k. rw (one_back, eq-eqb (get_or v (n - 1) 0) 10 e) (omega (arith, u.counted 0))) 0) ∙ last_is v
 
-  pub other_seen : (get_or v (n _ 1) 0 ≡ 10 → ⊥) → Unbroken v (n _ 1)
+  pub other_seen : (get_or v (n - 1) 0 ≡ 10 → ⊥) → Unbroken v (n - 1)
   unfolding last_from newline
   other_seen e = record {
     inside = omega (arith, u.inside);
-    counted = λ k. rw (one_back, ne_eqb (get_or v (n _ 1) 0) 10 e) (omega (arith, u.counted (suc k), u.inside));
+    counted = λ k. rw (one_back, ne_eqb (get_or v (n - 1) 0) 10 e) (omega (arith, u.counted (suc k), u.inside));
   }
 
 pub all_seen : {v : List ℕ} {n : ℕ} → Unbroken v n → n ≤ 0 → length v ≡ last_long v
@@ -139,13 +139,13 @@ module _ (w : ℕ) (v : List ℕ) {r : Shape} {first x : ℕ} (f : first ≡ fir
 
 -- a text in which a quick look found no newline
 pub lacking_line : (w : ℕ) {s : List ℕ} {from to : ℕ} → from ≤ to → to ≤ length s → {b : Bool} → Says b (Lacks 10 s from to) → b ≡ true
-    → {x : ℕ} → x ≡ wide (to _ from) w → {r : Shape} → r ≡ Inline x 0 → r ≡ text_in w (part s from to)
+    → {x : ℕ} → x ≡ wide (to - from) w → {r : Shape} → r ≡ Inline x 0 → r ≡ text_in w (part s from to)
 lacking_line w {s} {from} {to} l h C t fx q =
-    let n : length (part s from to) ≡ to _ from = part_length s from to l h in
+    let n : length (part s from to) ≡ to - from = part_length s from to l h in
     let all : first_long (part s from to) ≡ length (part s from to) = rw (part_up_to s from to l) (no_newline (drop from (take to s)) (lacks_has h l (C.says t))) in
     one_line w (part s from to) (sym (all ∙ n)) fx (sym n) q
 
 pub lacking_if_block : {s : List ℕ} {from to : ℕ} → from ≤ to → to ≤ length s → {b : Bool} → Says b (Lacks 10 s from to) → b ≡ true
-    → {x : ℕ} → x ≡ wide (to _ from) 10 → {r : Shape} → r ≡ Inline x x → r ≡ only_if_block (text_in 10 (part s from to))
+    → {x : ℕ} → x ≡ wide (to - from) 10 → {r : Shape} → r ≡ Inline x x → r ≡ only_if_block (text_in 10 (part s from to))
 unfolding only_if_block
 lacking_if_block l h C t fx q = q ∙ ap only_if_block (lacking_line 10 l h C t fx refl)

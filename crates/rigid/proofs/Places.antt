@@ -23,26 +23,26 @@ take_drop n (suc m) (x ∷ l) = rw suc-add (take_drop n m l)
 -- what ends at `to`, from `from` on
 pub part_up_to : (s : List ℕ) (from to : ℕ) → from ≤ to → part s from to ≡ drop from (take to s)
 unfolding part
-part_up_to s from to h = let e : from + (to _ from) ≡ to = omega arith in take_drop (to _ from) from s ∙ rw e
+part_up_to s from to h = let e : from + (to - from) ≡ to = omega arith in take_drop (to - from) from s ∙ rw e
 
 pub part_of_front : (s : List ℕ) (from to end : ℕ) → from ≤ to → to ≤ end → part (take end s) from to ≡ part s from to
 part_of_front s from to end h g = part_up_to (take end s) from to h ∙ ap (drop from) (take-take to end s g) ∙ sym (part_up_to s from to h)
 
-shifted : (u : List ℕ) (at a b : ℕ) {from n : ℕ} → at + a ≡ from → b _ a ≡ n → part (drop at u) a b ≡ take n (drop from u)
+shifted : (u : List ℕ) (at a b : ℕ) {from n : ℕ} → at + a ≡ from → b - a ≡ n → part (drop at u) a b ≡ take n (drop from u)
 unfolding part
 shifted u at a b e q = rw (drop-drop a at u, e, q)
 
 -- the part of a part
-part_of_part : (s : List ℕ) (at end from to : ℕ) → at ≤ from → from ≤ to → to ≤ end → part (part s at end) (from _ at) (to _ at) ≡ part s from to
+part_of_part : (s : List ℕ) (at end from to : ℕ) → at ≤ from → from ≤ to → to ≤ end → part (part s at end) (from - at) (to - at) ≡ part s from to
 unfolding part
 part_of_part s at end from to l h g =
-    let a : at + (from _ at) ≡ from = omega arith in
-    let n : (to _ at) _ (from _ at) ≡ to _ from = omega arith in
-    ap (λ (v : List ℕ). part v (from _ at) (to _ at)) (part_up_to s at end (omega arith)) ∙ shifted (take end s) at (from _ at) _ a n ∙ part_of_front s from to end h g
+    let a : at + (from - at) ≡ from = omega arith in
+    let n : (to - at) - (from - at) ≡ to - from = omega arith in
+    ap (λ (v : List ℕ). part v (from - at) (to - at)) (part_up_to s at end (omega arith)) ∙ shifted (take end s) at (from - at) _ a n ∙ part_of_front s from to end h g
 
 -- a part's bytes, by the file's
 module _ (s : List ℕ) (at to : ℕ) where
-  pub part_length : at ≤ to → to ≤ length s → length (part s at to) ≡ to _ at
+  pub part_length : at ≤ to → to ≤ length s → length (part s at to) ≡ to - at
   part_length l h = rw (part_up_to s at to l) (omega (arith, length-drop at (take to s), length-take-le to s h))
 
   pub part_first : at < to → get_or (part s at to) 0 0 ≡ get_or s at 0
@@ -67,14 +67,14 @@ module _ (s : List ℕ) (end : ℕ) {at to : ℕ} (e : Ends (take end s) at to) 
   pub ends_inside_file : to ≤ length s
   ends_inside_file = omega (arith, ends_inside, h)
 
-  pub ends_less : end _ to < end _ at
+  pub ends_less : end - to < end - at
   ends_less = omega (arith, end_after e there, ends_inside)
 
 -- ---- the field at a place of what ends at `end`, seen in the part from `at` on
 
 module _ (s : List ℕ) (at end j : ℕ) (l : at ≤ end) where
   field_within : {place t from to : ℕ} {f : Field} → place ≡ at + j → f ≡ field_at (take end s) place → f ≡ Whole t from to
-      → Whole t (from _ at) (to _ at) ≡ field_at (part s at end) j
+      → Whole t (from - at) (to - at) ≡ field_at (part s at end) j
   field_within {place} {t} {from} {to} {f} p e w =
       let u : List ℕ = take end s in
       let W = is_whole u place t from to f e w in
@@ -82,8 +82,8 @@ module _ (s : List ℕ) (at end j : ℕ) (l : at ≤ end) where
       let same : (k : ℕ) → get_or (drop at u) (j + k) 0 ≡ get_or u (place + k) 0 = λ k. get_or-drop at u (j + k) 0 ∙ (let q : at + (j + k) ≡ place + k = omega arith in ap (λ (i : ℕ). get_or u i 0) q) in
       let tag : t ≡ get_or (drop at u) j 0 = sym W.tag_is ∙ ap (λ (i : ℕ). get_or u i 0) p ∙ sym (get_or-drop at u j 0) in
       let long : n ≡ length_at (drop at u) j = (λ i. sym (same 1) i * 256 + sym (same 2) i) in
-      let a : from _ at ≡ j + 3 = omega (arith, W.from_is) in
-      let b : to _ at ≡ j + 3 + n = omega (arith, W.to_is) in
+      let a : from - at ≡ j + 3 = omega (arith, W.from_is) in
+      let b : to - at ≡ j + 3 + n = omega (arith, W.to_is) in
       (λ i. Whole (tag i) (a i) (b i))
       ∙ whole (drop at u) j n long (omega (arith, length-drop at u, W.ends, W.to_is)) (omega (arith, length-drop at u, W.ends, W.to_is))
       ∙ ap (λ (v : List ℕ). field_at v j) (sym (part_up_to s at end l))
@@ -104,10 +104,10 @@ module _ (s : List ℕ) (at end : ℕ) (h : end ≤ length s) {f : Field} (e : f
         let W = is_whole (take end s) at t from to f e w in
         (omega (arith, W.from_is), omega (arith, W.from_is, W.to_is), ends_in s end at t from to f h e w)
 
-    first_is : Whole t (from _ at) (to _ at) ≡ field_at (part s at end) 0
+    first_is : Whole t (from - at) (to - at) ≡ field_at (part s at end) 0
     first_is = field_within s at end 0 (omega (arith, inside.0, inside.1, inside.2)) (omega arith) e w
 
-    value_is : part (part s at end) (from _ at) (to _ at) ≡ part s from to
+    value_is : part (part s at end) (from - at) (to - at) ≡ part s from to
     value_is = part_of_part s at end from to inside.0 inside.1 inside.2
 
     pub plain_text : (t ≡ 16 → ⊥) → {r : Shape} → r ≡ text_in 10 (part s from to) → r ≡ run_in (part s at end)
@@ -119,8 +119,8 @@ module _ (s : List ℕ) (at end : ℕ) (h : end ≤ length s) {f : Field} (e : f
     unfolding run_in styled_in chars_in
     styled_text n {g} {t'} {from'} {to'} e' w'' ew q =
         let W = is_whole (take end s) to t' from' to' g e' w'' in
-        let second_is : Whole t' (from' _ at) (to' _ at) ≡ field_at (part s at end) (to _ at) =
-        field_within s at end (to _ at) (omega (arith, inside.0, inside.1, inside.2)) (omega (arith, inside.0, inside.1)) e' w'' in
+        let second_is : Whole t' (from' - at) (to' - at) ≡ field_at (part s at end) (to - at) =
+        field_within s at end (to - at) (omega (arith, inside.0, inside.1, inside.2)) (omega (arith, inside.0, inside.1)) e' w'' in
         rw (
           ← first_is,
           eq-eqb t 16 n,

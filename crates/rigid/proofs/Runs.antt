@@ -21,7 +21,7 @@ module _ (v : List ℕ) {r : Shape} {f : Field} (e : f ≡ field_at v 0) where
   no_run n h = rw (← e) (h ∙ sym (not_whole (styled_in v) (λ t. refl) refl f n))
 
   module _ {t from to : ℕ} (w : f ≡ Whole t from to) where
-    pub plain_run : (t ≡ 16 → ⊥) → r ≡ text_in 10 (take (to _ from) (drop from v)) → r ≡ run_in v
+    pub plain_run : (t ≡ 16 → ⊥) → r ≡ text_in 10 (take (to - from) (drop from v)) → r ≡ run_in v
     unfolding run_in styled_in part
     plain_run n h = rw (sym e ∙ w, ne_eqb t 16 n) h
 
@@ -31,20 +31,20 @@ module _ (v : List ℕ) {r : Shape} {f : Field} (e : f ≡ field_at v 0) where
       unfolding run_in styled_in chars_in
       cut_run n h = rw (sym e ∙ w, eq-eqb t 16 s, ← e') (h ∙ sym (not_whole (chars_in v _) (λ t. refl) refl g n))
 
-      pub styled_run : {c t' from' to' : ℕ} → g ≡ Whole t' from' to' → c ≡ byte_width (effective (styles_in (take (to _ from) (drop from v))))
-          → r ≡ text_in c (take (to' _ from') (drop from' v)) → r ≡ run_in v
+      pub styled_run : {c t' from' to' : ℕ} → g ≡ Whole t' from' to' → c ≡ byte_width (effective (styles_in (take (to - from) (drop from v))))
+          → r ≡ text_in c (take (to' - from') (drop from' v)) → r ≡ run_in v
       unfolding run_in styled_in chars_in part
       styled_run w' ec h = rw (sym e ∙ w, eq-eqb t 16 s, ← ec, sym e' ∙ w') h
 
 -- a short line, alone or behind a style
 module _ (s : List ℕ) (at end : ℕ) (h : end ≤ length s) {r : Shape} {x : ℕ} {b : Bool} where
   pub plain_quick : (t from to : ℕ) {f : Field} → f ≡ field_at (take end s) at → f ≡ Whole t from to → (t ≡ 16 → ⊥)
-      → Says b (Lacks 10 s from to) → b ≡ true → x ≡ wide (to _ from) 10 → r ≡ Inline x 0 → r ≡ run_in (part s at end)
+      → Says b (Lacks 10 s from to) → b ≡ true → x ≡ wide (to - from) 10 → r ≡ Inline x 0 → r ≡ run_in (part s at end)
   plain_quick t from to {f} e w n C y fx q =
       plain_text s at end h e w n (lacking_line 10 (rises (take end s) at t from to f e w) (ends_in_file s end at t from to f h e w) C y fx q)
 
   pub styled_quick : (from to t' from' to' : ℕ) {g : Field} {c : ℕ} → Whole 16 from to ≡ field_at (take end s) at → g ≡ field_at (take end s) to → g ≡ Whole t' from' to'
-      → c ≡ byte_width (effective (styles_in (part s from to))) → Says b (Lacks 10 s from' to') → b ≡ true → x ≡ wide (to' _ from') c → r ≡ Inline x 0 → r ≡ run_in (part s at end)
+      → c ≡ byte_width (effective (styles_in (part s from to))) → Says b (Lacks 10 s from' to') → b ≡ true → x ≡ wide (to' - from') c → r ≡ Inline x 0 → r ≡ run_in (part s at end)
   styled_quick from to t' from' to' {g} e e' w' ec C y fx q =
       styled_text s at end h e refl refl e' w' ec (lacking_line _ (rises (take end s) to t' from' to' g e' w') (ends_in_file s end to t' from' to' g h e' w') C y fx q)
 
@@ -54,11 +54,11 @@ style_first s at t from to e w n = ap (λ (t : ℕ). Whole t from to) (sym n) �
 -- ---- a field of a 2
 
 module _ (a : Shape) (s : List ℕ) (at to : ℕ) (l : at ≤ to) (h : to ≤ length s) where
-  pub cut_field : to _ at < 3 → a ≡ with_run a (part s at to)
+  pub cut_field : to - at < 3 → a ≡ with_run a (part s at to)
   unfolding with_run
   cut_field n = rw (lt-leb 3 (length (part s at to)) (omega (arith, part_length s at to l h)))
 
-  module _ (g : 3 ≤ to _ at) where
+  module _ (g : 3 ≤ to - at) where
     three_there : leb 3 (length (part s at to)) ≡ true
     three_there = le-leb 3 (length (part s at to)) (omega (arith, part_length s at to l h))
 
@@ -89,8 +89,8 @@ module _ (s : List ℕ) (from end : ℕ) (h : end ≤ length s) {at : ℕ} {a : 
   unfolding here part
   next_run {to} {b} g e q =
       let u : List ℕ = take end s in
-      let k : to _ at ≡ span (drop at u) = omega (arith, e.end) in
-      let is : part s at to ≡ take (to _ at) (drop at u) = sym (part_of_front s at to end (ends_rise s end e g h) (ends_inside s end e g h)) in
+      let k : to - at ≡ span (drop at u) = omega (arith, e.end) in
+      let is : part s at to ≡ take (to - at) (drop at u) = sym (part_of_front s at to end (ends_rise s end e g h) (ends_inside s end e g h)) in
       left_more l (omega (arith, length-take-le end s h)) e
       (λ j. fold_step with_run j a (drop at u) (omega (arith, length-drop at u, length-take-le end s h)) ∙ rw (← k, ← is, ← q))
 

@@ -34,10 +34,10 @@ other_tag v {t} n1 n2 n3 n5 n6 n7 h = rw (ne_eqb t 1 n1, ne_eqb t 2 n2, ne_eqb t
 -- ---- a node at..to
 
 module _ (s : List ℕ) (at to : ℕ) (l : at ≤ to) (h : to ≤ length s) {r : Shape} where
-  pub cut_node : to _ at < 3 → r ≡ Inline 0 0 → r ≡ rigid_in (part s at to)
+  pub cut_node : to - at < 3 → r ≡ Inline 0 0 → r ≡ rigid_in (part s at to)
   unfolding rigid_in
   cut_node n e = rw (lt-leb 3 (length (part s at to)) (omega (arith, part_length s at to l h))) e
 
-  pub whole_node : 3 ≤ to _ at → r ≡ by_tag (get_or s at 0) (part s (at + 3) to) → r ≡ rigid_in (part s at to)
+  pub whole_node : 3 ≤ to - at → r ≡ by_tag (get_or s at 0) (part s (at + 3) to) → r ≡ rigid_in (part s at to)
   unfolding rigid_in
   whole_node n e = rw (le-leb 3 (length (part s at to)) (omega (arith, part_length s at to l h)), part_first s at to (omega arith), part_behind s at to (omega arith)) e

@@ -62,7 +62,7 @@ front_inv h d before p x s f bs e =
     let e₅ = need_inv _ _ _ _ _ e₄.1 in
     go s f bs (leb-true _ _ e₁.0) (leb-true _ _ e₃.0) e₂.0 e₄.0 (not-true _ e₅.0) e₅.1
   where
-    go : (s : List ℕ) (f : Field ℕ) → Bytes s → 2 ≤ length s → number (map itself (take 2 s)) ≤ length s _ 2
+    go : (s : List ℕ) (f : Field ℕ) → Bytes s → 2 ≤ length s → number (map itself (take 2 s)) ≤ length s - 2
         → allowed h before x ≡ true → right_length x (number (map itself (take 2 s))) ≡ true → (is_block x && leb most_blocks d) ≡ false
         → accepted (record { tag = x; value = take (number (map itself (take 2 s))) (drop 2 s); rest = drop (number (map itself (take 2 s))) (drop 2 s) }) ≡ accepted f
         → Fronted h d before x s f

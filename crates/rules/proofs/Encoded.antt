@@ -16,7 +16,7 @@ front_field h d before p t v rest S =
     let n : number (map itself ((length v / 256) ∷ (length v % 256) ∷ [])) ≡ length v = omega (arith, number_two (length v / 256) (length v % 256)) in
     let s : List ℕ = (length v / 256) ∷ (length v % 256) ∷ (v ++ rest) in
     let l₁ : leb 2 (length s) ≡ true = le-leb 2 (length s) (omega arith) in
-    let l₂ : leb (length v) (length s _ 2) ≡ true = le-leb (length v) (length s _ 2) (omega (arith, length-append v rest)) in
+    let l₂ : leb (length v) (length s - 2) ≡ true = le-leb (length v) (length s - 2) (omega (arith, length-append v rest)) in
     simp (n, l₁, S.right_tag, l₂, S.length_right, S.not_deep, take_at, drop_at)
 
 pub good_walk : (asked : Content) (i : Fields ℕ) (k : ℕ) (h : Holder) (d before p : ℕ) → length (encode_fields i) ≤ k → GoodAs asked h d before i

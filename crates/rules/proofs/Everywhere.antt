@@ -47,9 +47,9 @@ module _ {Q : ℕ → List ℕ → Type 0} {P : Item ℕ → Type 0} (H : Held Q
   unfolding levels making
   levels_each k t = go (ltb t k)
     where
-      go : (b : Bool) → Each P (if b then making (10 ∷ replicate (2 * t) 32) else making (replicate (2 * (t _ k)) 32))
+      go : (b : Bool) → Each P (if b then making (10 ∷ replicate (2 * t) 32) else making (replicate (2 * (t - k)) 32))
       go true = (H.newline_made, spaces_each (2 * t))
-      go false = spaces_each (2 * (t _ k))
+      go false = spaces_each (2 * (t - k))
 
   release_each : (w : Option Break) (l : Line) → Each P (release w l).0
   unfolding release making

@@ -13,7 +13,7 @@ bind_cong (accepted a) f g h = h a refl
 
 module _ {X : Type 0} (byte : X → ℕ) where
   -- a field's value stands behind its header, and what follows behind its value
-  fits : (n p : ℕ) (s : List X) → 2 ≤ length s → n ≤ length s _ 2
+  fits : (n p : ℕ) (s : List X) → 2 ≤ length s → n ≤ length s - 2
       → (p + 3 + length (take n (drop 2 s)) ≤ p + suc (length s)) × (p + (3 + length (take n (drop 2 s))) + length (drop n (drop 2 s)) ≤ p + suc (length s))
   fits n p s l₁ l₂ = omega (arith, length-take n (drop 2 s), length-drop 2 s, length-drop n (drop 2 s))
 

@@ -30,7 +30,7 @@ pay_add most zero n = omega arith
 pay_add most (suc k) n = omega (arith, pay_more most k, pay_more most (k + n), pay_add most k n)
 
 pub pay_le : (most k n : ℕ) → k ≤ n → pay most k ≤ pay most n
-pay_le most k n l = let e : k + (n _ k) ≡ n = omega arith in omega (arith, pay_add most k (n _ k), ap (pay most) e)
+pay_le most k n l = let e : k + (n - k) ≡ n = omega arith in omega (arith, pay_add most k (n - k), ap (pay most) e)
 
 -- ---- one item, with what stands before it, where what is made here costs 1 a byte
 
@@ -50,9 +50,9 @@ module _ (cost : Item ℕ → ℕ) (made_1 : (b : ℕ) → cost (char (made b)) 
   unfolding levels
   levels_cost k t = go (ltb t k)
     where
-      go : (b : Bool) → cost_all cost (if b then making (10 ∷ replicate (2 * t) 32) else making (replicate (2 * (t _ k)) 32)) ≤ 1 + 2 * t
+      go : (b : Bool) → cost_all cost (if b then making (10 ∷ replicate (2 * t) 32) else making (replicate (2 * (t - k)) 32)) ≤ 1 + 2 * t
       go true = omega (arith, making_cost (10 ∷ replicate (2 * t) 32), length-replicate {A = ℕ} (2 * t) 32)
-      go false = omega (arith, making_cost (replicate (2 * (t _ k)) 32), length-replicate {A = ℕ} (2 * (t _ k)) 32)
+      go false = omega (arith, making_cost (replicate (2 * (t - k)) 32), length-replicate {A = ℕ} (2 * (t - k)) 32)
 
   spacing_cost : (level : ℕ) (bare : Bool) (l : Line) → cost_all cost (spacing level bare l).0 ≤ 1 + 2 * level
   unfolding spacing cost_all

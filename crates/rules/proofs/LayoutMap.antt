@@ -86,9 +86,9 @@ module _ {X Y : Type 0} (f : X → Y) (newline : Y → Bool) where
         (leaf (map_leaf f n) r'.0, r'.1)
     lay_map (block indented fs r) i b so =
         λ j. let r' : Frag Y × Shape = lay_map r i b (past_map (Block 0 0) (so ⊕ Block 0 0) r j) j in
-        (block indented (lay_all_map fs (b _ indentation) (b _ indentation) (Inline 0 0) j).0 r'.0, r'.1)
+        (block indented (lay_all_map fs (b - indentation) (b - indentation) (Inline 0 0) j).0 r'.0, r'.1)
     lay_map (block flexible fs r) i b so =
-        λ j. let fs' : Frags Y × Shape = lay_all_map fs (max (room i b so) (b _ indentation)) (b _ indentation) (Inline 0 0) j in
+        λ j. let fs' : Frags Y × Shape = lay_all_map fs (max (room i b so) (b - indentation)) (b - indentation) (Inline 0 0) j in
         let c : Kind × Shape = chosen (room i b so) fs'.1 in
         let r' : Frag Y × Shape = lay_map r i b (so ⊕ c.1) j in
         (block c.0 fs'.0 r'.0, r'.1)

@@ -60,7 +60,7 @@ mag_up f a zero = rw add-zero (le_refl (mag f a))
 mag_up f a (suc k) = rw add-suc (le_trans (mag_up f a k) (le_of_lt (mag_lt f (a + k))))
 
 pub mag_mono : (f : Format) (a b : ℕ) → a ≤ b → mag f a ≤ mag f b
-mag_mono f a b h = subst (λ (z : ℕ). mag f a ≤ mag f z) (omega arith) (mag_up f a (b _ a))
+mag_mono f a b h = subst (λ (z : ℕ). mag f a ≤ mag f z) (omega arith) (mag_up f a (b - a))
 
 -- ---- nearest, by the two neighbours
 
@@ -94,7 +94,7 @@ pub record Within (f : Format) (num den b : ℕ) : Type 0 where
 times_lt : (f : Format) (den : ℕ) → 0 < den → (b : ℕ) → mag f b * den < mag f (suc b) * den
 times_lt f den D b = mul-lt-mul_of_pos_right (mag_lt f b) D
 
-pub pred_suc : (b : ℕ) → suc b _ 1 ≡ b
+pub pred_suc : (b : ℕ) → suc b - 1 ≡ b
 pred_suc b = omega arith
 
 lower : (f : Format) (num den : ℕ) → 0 < den → (b : ℕ) → b < infinite f → Nearest f num den b → low_end f den b ≤ 2 * (num * 2 ^ low f)
@@ -108,17 +108,17 @@ pub nearest→within : (f : Format) (num den : ℕ) → 0 < den → (b : ℕ) �
 nearest→within f num den D b F n =
     record { lo = lower f num den D b F n; hi = high_of (num * 2 ^ low f) (mag f b * den) (mag f (suc b) * den) (b % 2) (bit b) (times_lt f den D b) (n.near (suc b) F) (n.even (suc b) F (λ (e : suc b ≡ b). omega arith)) }
 
-low_lt : (f : Format) (den : ℕ) → 0 < den → (b : ℕ) → 0 < b → mag f (b _ 1) * den < mag f b * den
-low_lt f den D b B = subst (λ (z : ℕ). mag f (b _ 1) * den < mag f z * den) (omega arith) (times_lt f den D (b _ 1))
+low_lt : (f : Format) (den : ℕ) → 0 < den → (b : ℕ) → 0 < b → mag f (b - 1) * den < mag f b * den
+low_lt f den D b B = subst (λ (z : ℕ). mag f (b - 1) * den < mag f z * den) (omega arith) (times_lt f den D (b - 1))
 
 pub within→nearest : (f : Format) (num den : ℕ) → 0 < den → (b : ℕ) → Within f num den b → Nearest f num den b
 within→nearest f num den D b w =
     let N = num * 2 ^ low f in
     let X = mag f b * den in
-    let L = mag f (b _ 1) * den in
+    let L = mag f (b - 1) * den in
     let H = mag f (suc b) * den in
     let under : (c : ℕ) → c < b → (L < X) × (mag f c * den ≤ L) =
-    λ c l. (low_lt f den D b (omega arith), mul-le-mul_right den (mag_mono f c (b _ 1) (omega arith))) in
+    λ c l. (low_lt f den D b (omega arith), mul-le-mul_right den (mag_mono f c (b - 1) (omega arith))) in
     let over : (c : ℕ) → b < c → H ≤ mag f c * den = λ c l. mul-le-mul_right den (mag_mono f (suc b) c l) in
     record {
       near = λ c _. elim (dec_lt c b) [
@@ -160,7 +160,7 @@ own_high f den D b = omega (arith, times_lt f den D b, bit b)
 order : (f : Format) (num den : ℕ) → 0 < den → (b c : ℕ) → Within f num den b → Within f num den c → b < c → ⊥
 order f num den D b c w v l =
     let x : mag f (suc b) * den ≤ mag f c * den = mul-le-mul_right den (mag_mono f (suc b) c l) in
-    let y : mag f b * den ≤ mag f (c _ 1) * den = mul-le-mul_right den (mag_mono f b (c _ 1) (omega arith)) in
+    let y : mag f b * den ≤ mag f (c - 1) * den = mul-le-mul_right den (mag_mono f b (c - 1) (omega arith)) in
     let z : suc b < c → mag f (suc b) * den < mag f c * den = λ g. le_trans (times_lt f den D (suc b)) (mul-le-mul_right den (mag_mono f (suc (suc b)) c g)) in
     elim (dec_lt (suc b) c) [
       | yes g ↦ omega (arith, z g, w.lo, w.hi, v.lo, v.hi)

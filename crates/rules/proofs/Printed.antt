@@ -18,7 +18,7 @@ NoLeadingZero (c ∷ d ∷ s) = 48 < c
 -- the number that digits give
 abbrev pub value_from : ℕ → List ℕ → ℕ
 value_from n [] = n
-value_from n (c ∷ s) = value_from (10 * n + (c _ 48)) s
+value_from n (c ∷ s) = value_from (10 * n + (c - 48)) s
 
 abbrev pub value : List ℕ → ℕ
 value s = value_from 0 s
@@ -27,9 +27,9 @@ digits_append : (s u : List ℕ) → Digits s → Digits u → Digits (s ++ u)
 digits_append [] u x y = y
 digits_append (c ∷ s) u x y = (x.0, x.1, digits_append s u x.2 y)
 
-value_append : (n : ℕ) (s : List ℕ) (c : ℕ) → value_from n (s ++ (c ∷ [])) ≡ 10 * value_from n s + (c _ 48)
+value_append : (n : ℕ) (s : List ℕ) (c : ℕ) → value_from n (s ++ (c ∷ [])) ≡ 10 * value_from n s + (c - 48)
 value_append n [] c = refl
-value_append n (x ∷ s) c = value_append (10 * n + (x _ 48)) s c
+value_append n (x ∷ s) c = value_append (10 * n + (x - 48)) s c
 
 one_digit : (n : ℕ) → Digits (digit (n % 10) ∷ [])
 one_digit n = (omega arith, omega arith, tt)

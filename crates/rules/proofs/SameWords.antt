@@ -1,5 +1,5 @@
 -- THE SAME WORDS AT EVERY WIDTH: layout turns the tags of blocks alone, and those give breaks and indents alone.
-use Rattle.rules.proofs.Basics.{◌≡◌, refl, sym, ◌∙◌, ap, ap₂, List, [], ◌∷◌, ◌++◌, append_assoc, Option, none, some, Bool, true, false, ◌||◌, ◌&&◌, and-eq-true_iff, or_true, ℕ, eqb}
+use Rattle.rules.proofs.Basics.{◌≡◌, refl, sym, ◌∙◌, ap, ap₂, List, [], ◌∷◌, ◌++◌, append_assoc, Option, none, some, Bool, true, false, ◌||◌, ◌&&◌, and-eq-true_iff, or-true, ℕ, eqb}
 use Rattle.rules.specs.Bytes.{if◌then◌else◌, newline}
 use Rattle.rules.specs.Result.{accepted, ◌>>=◌}
 use Rattle.rules.specs.Walk.{Fields, bytes}
@@ -48,7 +48,7 @@ part_ops l = part l.0 ∷ later l.1
 
 newline_white : (x : ℕ) → newline x ≡ true → white x ≡ true
 unfolding white
-newline_white x h = ap (eqb x 32 ||◌) h ∙ or_true (eqb x 32)
+newline_white x h = ap (eqb x 32 ||◌) h ∙ or-true (eqb x 32)
 
 text_shows : (v : List ℕ) → Shows (text_ops newline v) (text_said v)
 unfolding text_ops parts later showing own_items text_said visible without white_item

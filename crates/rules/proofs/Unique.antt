@@ -13,7 +13,7 @@ abbrev by_number : ℕ → ℕ → Refusal
 by_number n p =
     get_or
     (TooLong ∷ TooWide ∷ Cut p ∷ WrongTag p ∷ WrongLength p ∷ TooDeep p ∷ NotUtf8 p ∷ BadStyle p ∷ QuoteInAnchor p ∷ PageTooShort p ∷ [])
-    (n _ 1) (NulInText p)
+    (n - 1) (NulInText p)
 
 abbrev answer_of : Result ℕ → Answer
 answer_of (refused n p) = Refused (by_number n p)

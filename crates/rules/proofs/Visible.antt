@@ -60,9 +60,9 @@ levels_white : (k t : ℕ) → visible (levels k t) ≡ []
 unfolding levels visible without making white_item white newline
 levels_white k t = go (ltb t k)
   where
-    go : (b : Bool) → visible (if b then making (10 ∷ replicate (2 * t) 32) else making (replicate (2 * (t _ k)) 32)) ≡ []
+    go : (b : Bool) → visible (if b then making (10 ∷ replicate (2 * t) 32) else making (replicate (2 * (t - k)) 32)) ≡ []
     go true = spaces_white (2 * t)
-    go false = spaces_white (2 * (t _ k))
+    go false = spaces_white (2 * (t - k))
 
 release_white : (w : Option Break) (l : Line) → visible (release w l).0 ≡ []
 unfolding release visible without making white_item white newline

@@ -1,5 +1,5 @@
 -- The file check's tests of opacities and sizes are document 01's words: each passes exactly where the value is one of those that are accepted.
-use Rattle.rules.proofs.Basics.{◌≡◌, refl, sym, ◌∙◌, subst, ◌↔◌, inl, inr, ⊎_elim, Bool, true, false, ◌&&◌, ◌||◌, or_true, or_false, false≢true, ℕ, suc, ◌*◌, ◌-◌, ◌^◌, ◌≤◌, dec_le, arith, T, leb, ltb, eqb, pos, negsuc, leb-true, ltb-true, ltb-false, eqb-true, le-leb, lt-leb}
+use Rattle.rules.proofs.Basics.{◌≡◌, refl, sym, ◌∙◌, subst, ◌↔◌, inl, inr, ⊎_elim, Bool, true, false, ◌&&◌, ◌||◌, or-true, or-false, false≢true, ℕ, suc, ◌*◌, ◌-◌, ◌^◌, ◌≤◌, dec_le, arith, T, leb, ltb, eqb, pos, negsuc, leb-true, ltb-true, ltb-false, eqb-true, le-leb, lt-leb}
 use native.Mathlib.Nat.{mul-le-mul_left}
 use lib.Ieee.{Format, binary32, low}
 use lib.Signed.{le_z, le_z_yes}
@@ -59,7 +59,7 @@ module _ (bits : ℕ) where
       (λ v.
       let l : 0x3a80_0000 ≤ bits = mag_reflects binary32 _ bits (reach _ _ _ least v.0) in
       let h : bits ≤ 0x3f80_0000 = mag_reflects binary32 bits _ (rw most v.1) in
-      simp (le-leb 0x3a80_0000 bits l, le-leb bits 0x3f80_0000 h, or_true))
+      simp (le-leb 0x3a80_0000 bits l, le-leb bits 0x3f80_0000 h, or-true))
       (subst (λ (p : ℕ). ZeroOrInRange (mag binary32 p)) e A.value)
 
   -- THE TEST OF AN OPACITY'S BITS IS +0, OR FROM 1/1024 TO 1
@@ -77,9 +77,9 @@ module _ (b : ℕ) where
   unfolding right_size signed
   size_test = go (ltb b 128) refl
     where
-      go : (e : Bool) → ltb b 128 ≡ e → le_z (if e then pos b else negsuc (255 _ b)) (pos 117) ≡ (leb b 117 || leb 128 b)
-      go true q = simp (lt-leb 128 b (ltb-true b 128 q), or_false)
-      go false q = simp (le-leb 128 b (ltb-false b 128 q), or_true)
+      go : (e : Bool) → ltb b 128 ≡ e → le_z (if e then pos b else negsuc (255 - b)) (pos 117) ≡ (leb b 117 || leb 128 b)
+      go true q = simp (lt-leb 128 b (ltb-true b 128 q), or-false)
+      go false q = simp (le-leb 128 b (ltb-false b 128 q), or-true)
 
   -- THE TEST OF A SIZE'S BYTE IS AT MOST 117 AS A SIGNED BYTE
   pub size_words : (right_size b ≡ true) ↔ SizeAllowed b

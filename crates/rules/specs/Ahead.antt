@@ -32,11 +32,11 @@ module _ {X : Type 0} (newline : X → Bool) where
         let r' : Frag X × Shape = lay r i b (past (rigid newline n) so_far r) in
         (leaf n r'.0, r'.1)
     lay (block indented fs r) i b so_far =
-        let fs' : Frags X × Shape = lay_all fs (b _ indentation) (b _ indentation) (Inline 0 0) in
+        let fs' : Frags X × Shape = lay_all fs (b - indentation) (b - indentation) (Inline 0 0) in
         let r' : Frag X × Shape = lay r i b (past (Block 0 0) (so_far ⊕ Block 0 0) r) in
         (block indented fs'.0 r'.0, r'.1)
     lay (block flexible fs r) i b so_far =
-        let fs' : Frags X × Shape = lay_all fs (max (room i b so_far) (b _ indentation)) (b _ indentation) (Inline 0 0) in
+        let fs' : Frags X × Shape = lay_all fs (max (room i b so_far) (b - indentation)) (b - indentation) (Inline 0 0) in
         let c : Kind × Shape = chosen (room i b so_far) fs'.1 in
         let r' : Frag X × Shape = lay r i b (so_far ⊕ c.1) in
         (block c.0 fs'.0 r'.0, r'.1)

@@ -12,9 +12,9 @@ use Rattle.rules.specs.Answers.{laid_out, plain_text, body_text, document_text, 
 
 unfoldable pub nibble : ℕ → Option ℕ
 nibble c =
-    if leb 48 c && leb c 57 then some (c _ 48) else
-    if leb 97 c && leb c 102 then some (c _ 87) else
-    if leb 65 c && leb c 70 then some (c _ 55) else
+    if leb 48 c && leb c 57 then some (c - 48) else
+    if leb 97 c && leb c 102 then some (c - 87) else
+    if leb 65 c && leb c 70 then some (c - 55) else
     none
 
 unfoldable pub paired : Option ℕ → Option ℕ → List ℕ → List ℕ

@@ -15,14 +15,14 @@ digits_in (suc k) false n = digits_in k (ltb (n / 10) 10) (n / 10) ++ (digit (n 
 unfoldable pub digits : ℕ → List ℕ
 digits n = digits_in n (ltb n 10) n
 
--- a negative number has `_` in front
+-- a negative number has `-` in front
 unfoldable pub signed_digits : ℤ → List ℕ
 signed_digits (pos n) = digits n
 signed_digits (negsuc n) = 45 ∷ digits (suc n)
 
 -- a byte as a signed one
 unfoldable pub signed : ℕ → ℤ
-signed b = if ltb b 128 then pos b else negsuc (255 _ b)
+signed b = if ltb b 128 then pos b else negsuc (255 - b)
 
 -- a hexadecimal digit, and the two of a byte
 unfoldable pub hex_digit : ℕ → ℕ
@@ -36,7 +36,7 @@ unfoldable pub last_digits : ℕ → ℕ → List ℕ
 last_digits zero n = []
 last_digits (suc p) n = last_digits p (n / 10) ++ (digit (n % 10) ∷ [])
 
--- a decimal: n over 10 ^ p, with `_` in front where it is negative
+-- a decimal: n over 10 ^ p, with `-` in front where it is negative
 pub record Decimal : Type 0 where
   pub negative : Bool
   pub whole : ℕ

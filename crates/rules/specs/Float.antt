@@ -6,7 +6,7 @@ use Rattle.std.specs.Float.Ieee.{low, hid, ones}
 
 -- how far two whole numbers lie apart
 abbrev pub apart : ℕ → ℕ → ℕ
-apart a b = (a _ b) + (b _ a)
+apart a b = (a - b) + (b - a)
 
 -- ---- values
 

@@ -70,8 +70,8 @@ only_if_block (Block pre post) = Inline 0 0
 
 -- the inline maximum that is left of i and b: inline less worst, or block less post
 unfoldable pub room : (i b : ℕ) → Shape → ℕ
-room i b (Inline worst excess) = i _ worst
-room i b (Block pre post) = b _ post
+room i b (Inline worst excess) = i - worst
+room i b (Block pre post) = b - post
 
 -- a tag 4 whose inline candidate fits stays, Inline (candidate, 0); else it becomes a 3, Block (0, 0)
 unfoldable pub kept_inline : (fits : Bool) → (candidate : ℕ) → Kind × Shape
@@ -80,7 +80,7 @@ kept_inline false candidate = (indented, Block 0 0)
 
 -- the candidate is worst less excess, against the inline maximum i; a Block has none
 unfoldable pub chosen : (i : ℕ) → Shape → Kind × Shape
-chosen i (Inline worst excess) = kept_inline (leb (worst _ excess) i) (worst _ excess)
+chosen i (Inline worst excess) = kept_inline (leb (worst - excess) i) (worst - excess)
 chosen i (Block pre post) = (indented, Block 0 0)
 
 -- a tag 3 is a rigid Block (0, 0), a tag 4 a rigid Inline (0, 0)
@@ -118,9 +118,9 @@ module _ {X : Type 0} where
 
   -- a block, whose fragments are laid out by `inside`. With B block less the indentation: a tag 3 lays out each at (B, B), a tag 4 at (larger of inline and B, B)
   unfoldable pub block_flexible : Kind → (inside : (i b : ℕ) → Frags X × Shape) → Flexible X
-  block_flexible indented inside i b = (a_block indented (inside (b _ indentation) (b _ indentation)).0, Block 0 0)
+  block_flexible indented inside i b = (a_block indented (inside (b - indentation) (b - indentation)).0, Block 0 0)
   block_flexible flexible inside i b =
-      let fs : Frags X × Shape = inside (max i (b _ indentation)) (b _ indentation) in
+      let fs : Frags X × Shape = inside (max i (b - indentation)) (b - indentation) in
       let c : Kind × Shape = chosen i fs.1 in
       (a_block c.0 fs.0, c.1)
 

@@ -132,7 +132,7 @@ module _ {X : Type 0} where
   levels k t =
       if ltb t k
       then making (10 ∷ replicate (2 * t) 32)
-      else making (replicate (2 * (t _ k)) 32)
+      else making (replicate (2 * (t - k)) 32)
 
   -- a line without text is brought to the target
   unfoldable pub spacing : (level : ℕ) → (bare : Bool) → Line → List (Item X) × Line

@@ -7,7 +7,7 @@ use Rattle.rules.specs.Float.{mag, off}
 
 -- twice the ends of what rounds to b, over den * 2 ^ low f; an end belongs to it where b is even
 abbrev pub low_end : Format → (den b : ℕ) → ℕ
-low_end f den b = mag f b * den + mag f (b _ 1) * den + b % 2
+low_end f den b = mag f b * den + mag f (b - 1) * den + b % 2
 
 abbrev pub high_end : Format → (den b : ℕ) → ℕ
 high_end f den b = mag f b * den + mag f (suc b) * den

@@ -138,7 +138,7 @@ module _ (last : ℕ) {X : Type 0} (byte : X → ℕ) where
       do
         need (leb 2 (length s)) 3 p
         need (allowed_to last h before t) 4 p
-        need (leb n (length s _ 2)) 3 p
+        need (leb n (length s - 2)) 3 p
         need (right_length t n) 5 p
         need (not (is_block t && leb most_blocks d)) 6 p
         accepted (record { tag = t; value = take n (drop 2 s); rest = drop n (drop 2 s) })

@@ -7,10 +7,10 @@ use Rattle.moves.specs.Opened.{code_at, link_at, true_tag, closed_in, closed_byt
 use Rattle.moves.specs.Plans.{sane, closable}
 use Rattle.scribe.proofs.PlanLaws.{Sane, is_sane, closes_one, Two, closes_two}
 
-pub code_inside : (b : List ℕ) (top r : ℕ) → (top ≡ 0 → ⊥) → r ≡ get_or b (top _ 1) 0 → r < 256 → (r ≡ code_at b top) × (r ≤ 256)
+pub code_inside : (b : List ℕ) (top r : ℕ) → (top ≡ 0 → ⊥) → r ≡ get_or b (top - 1) 0 → r < 256 → (r ≡ code_at b top) × (r ≤ 256)
 unfolding code_at
 code_inside b zero r h e l = absurd (h refl)
-code_inside b (suc p) r h e l = let q : suc p _ 1 ≡ p = omega arith in (e ∙ ap (λ (i : ℕ). get_or b i 0) q, omega arith)
+code_inside b (suc p) r h e l = let q : suc p - 1 ≡ p = omega arith in (e ∙ ap (λ (i : ℕ). get_or b i 0) q, omega arith)
 
 pub closed_length : (w : List ℕ) (at top : ℕ) → length (closed_in w at top) ≡ length w
 unfolding closed_in
@@ -74,14 +74,14 @@ link_front w r top h = ap₂ (λ (x y : ℕ). x * 256 + y) (get_or-append w r 0 
 closed_front : (w r : List ℕ) (at top : ℕ) → 0 < top → top + 1 < length w → closed_in (w ++ r) at top ≡ closed_in w at top ++ r
 unfolding closed_in
 closed_front w r at top z h =
-    let t : ℕ = true_tag (get_or w (top _ 1) 0 / 32) in
-    let n : ℕ = at _ (top + 2) in
-    let e : get_or (w ++ r) (top _ 1) 0 ≡ get_or w (top _ 1) 0 = get_or-append w r 0 (top _ 1) (omega arith) in
-    let l : length (set w (top _ 1) t) ≡ length w = length-set w (top _ 1) t in
-    let m : length (set (set w (top _ 1) t) top (n / 256)) ≡ length w = length-set (set w (top _ 1) t) top (n / 256) ∙ l in
-    rw e (ap (λ (x : List ℕ). set (set x top (n / 256)) (top + 1) (n % 256)) (set-append_left w r (top _ 1) t (omega arith))
-    ∙ ap (λ (x : List ℕ). set x (top + 1) (n % 256)) (set-append_left (set w (top _ 1) t) r top (n / 256) (omega (arith, l, h)))
-    ∙ set-append_left (set (set w (top _ 1) t) top (n / 256)) r (top + 1) (n % 256) (omega (arith, m, h)))
+    let t : ℕ = true_tag (get_or w (top - 1) 0 / 32) in
+    let n : ℕ = at - (top + 2) in
+    let e : get_or (w ++ r) (top - 1) 0 ≡ get_or w (top - 1) 0 = get_or-append w r 0 (top - 1) (omega arith) in
+    let l : length (set w (top - 1) t) ≡ length w = length-set w (top - 1) t in
+    let m : length (set (set w (top - 1) t) top (n / 256)) ≡ length w = length-set (set w (top - 1) t) top (n / 256) ∙ l in
+    rw e (ap (λ (x : List ℕ). set (set x top (n / 256)) (top + 1) (n % 256)) (set-append_left w r (top - 1) t (omega arith))
+    ∙ ap (λ (x : List ℕ). set x (top + 1) (n % 256)) (set-append_left (set w (top - 1) t) r top (n / 256) (omega (arith, l, h)))
+    ∙ set-append_left (set (set w (top - 1) t) top (n / 256)) r (top + 1) (n % 256) (omega (arith, m, h)))
 
 -- the fields that are closed stand in w
 pub record Within (w : List ℕ) (top n : ℕ) : Type 0 where

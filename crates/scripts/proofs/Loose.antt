@@ -1,5 +1,5 @@
 -- Good fields from what a writer has tested: fields that are good but for their lengths, which are right where they all are short.
-use Rattle.rules.proofs.Basics.{◌≡◌, refl, ◌∙◌, List, [], ◌∷◌, ◌++◌, Option, none, some, Bool, true, false, ◌&&◌, or_true, not-true, ℕ, suc, ◌<◌, arith, leb, eqb, length, ne_eqb}
+use Rattle.rules.proofs.Basics.{◌≡◌, refl, ◌∙◌, List, [], ◌∷◌, ◌++◌, Option, none, some, Bool, true, false, ◌&&◌, or-true, not-true, ℕ, suc, ◌<◌, arith, leb, eqb, length, ne_eqb}
 use Rattle.rules.specs.Limits.{most_blocks}
 use Rattle.rules.specs.Bytes.{has}
 use Rattle.rules.specs.Walk.{Fields, end, bytes, inside, Holder, in_styles, in_text, in_anchor, in_block, in_fragment, content, text_content, anchor_content, complete, tags, holds, allowed, allowed_to, right_length, is_block}
@@ -138,7 +138,7 @@ unfolding frag_fields leaf_fields holds allowed_to right_length is_block complet
 done_anchor {k = true} {rs = rs} {d} c h =
     record { loose = ((refl, refl, refl), (in_anchor, refl, (refl, tt), ((refl, refl, refl), refl, c, runs_loose rs d 18 refl h)), tt) }
 done_anchor {k = false} {rs = rs} {d} c h =
-    let named = or_true (has 18 (tags (runs_fields rs))) in
+    let named = or-true (has 18 (tags (runs_fields rs))) in
     record { loose = ((refl, refl, refl), (in_anchor, refl, (named, tt), ((refl, refl, refl), refl, c, runs_loose rs d 19 refl h)), tt) }
 
 pub done_space : {d : ℕ} → Done d (leaf space stop)

@@ -28,7 +28,7 @@ pub fn saturating_add(a: u16, b: u16) -> u16
 
 // A difference of widths, which stops at 0.
 pub fn saturating_sub(a: u16, b: u16) -> u16
-    ensures { result ≡ a _ b }
+    ensures { result ≡ a - b }
 {
     if a < b {
         return 0;

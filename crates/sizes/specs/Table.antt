@@ -8,7 +8,7 @@ use Rattle.rules.proofs.EmSizes.{AcceptedSize}
 -- the sizes stand in their order from -128 on
 unfoldable pub place_of : ℤ → ℕ
 place_of (pos n) = 128 + n
-place_of (negsuc n) = 127 _ n
+place_of (negsuc n) = 127 - n
 
 -- what the table says of the size z that stands at the place i: from -11 downwards it is below zero
 unfoldable pub decimal_at : (wholes places : List ℕ) → ℤ → ℕ → Decimal

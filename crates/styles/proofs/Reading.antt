@@ -20,14 +20,14 @@ unfolding styles_in
 all_left s = record { k = length s; enough = omega arith; further = refl }
 
 pub next_left : (s : List ℕ) (at t from to : ℕ) (st : Styles) (f : Field) → f ≡ field_at s at → f ≡ Whole t from to → Left s at st
-    → Left s to (with_field st t (take (to _ from) (drop from s)))
+    → Left s to (with_field st t (take (to - from) (drop from s)))
 unfolding styles_from past_field
 next_left s at t from to st f e w l = go l.k l.enough l.further
   where
     i : Inside s at from to
     i = whole_inside s at t from to f e w
 
-    go : (k : ℕ) → length s ≤ at + k → styles_from k s at st ≡ styles_in s → Left s to (with_field st t (take (to _ from) (drop from s)))
+    go : (k : ℕ) → length s ≤ at + k → styles_from k s at st ≡ styles_in s → Left s to (with_field st t (take (to - from) (drop from s)))
     go zero h g = absurd (omega (arith, i.begins, i.rising, i.ends))
     go (suc k) h g = record { k = k; enough = omega (arith, i.begins, i.rising); further = rw (sym e ∙ w) at g }
 

@@ -31,7 +31,7 @@ module _ (b : ℕ) (h : b < 256) (l : 128 ≤ b) where
   unfolding signed
   high_byte =
       let same : of_z w8 (stored b) ≡ b = eqb→eq _ _ (of_byte (leb 128) (λ b. eqb (of_z w8 (stored b)) b) tt b h (le-leb 128 b l)) in
-      let n : 256 _ suc b ≡ 255 _ b = omega arith in
+      let n : 256 - suc b ≡ 255 - b = omega arith in
       ap (to_z w8) same ∙ rw (le-ltb b 128 l, n)
 
 -- a test of a size as it is stored that is the one against the largest: it is the test of the size's byte

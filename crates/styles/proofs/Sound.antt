@@ -1,5 +1,5 @@
 -- The style read from the bytes of good fields is the one that the rules read from those fields.
-use Rattle.rules.proofs.Basics.{◌≡◌, refl, sym, ap, ◌∙◌, List, [], ◌++◌, append_assoc, Option, none, some, Option·map, Bool, true, false, ◌&&◌, ◌||◌, and-eq-true_iff, or_false, ℕ, zero, suc, ◌+◌, ◌≤◌, ◌<◌, arith, leb, ltb, eqb, length, length-append, leb-true, ltb-true, eqb-true, ne_eqb, lt-leb}
+use Rattle.rules.proofs.Basics.{◌≡◌, refl, sym, ap, ◌∙◌, List, [], ◌++◌, append_assoc, Option, none, some, Option·map, Bool, true, false, ◌&&◌, ◌||◌, and-eq-true_iff, or-false, ℕ, zero, suc, ◌+◌, ◌≤◌, ◌<◌, arith, leb, ltb, eqb, length, length-append, leb-true, ltb-true, eqb-true, ne_eqb, lt-leb}
 use mathlib.Core.Bool.{or_assoc, or_comm}
 use Rattle.rules.specs.Limits.{first_style, last_style}
 use Rattle.rules.specs.Bytes.{if◌then◌else◌, within, has, number}
@@ -147,10 +147,10 @@ over_none j i = record {
   opacity = first_none (Option·map number (bytes_of 33 j)) i;
   thickness = first_none (Option·map signed_byte (bytes_of 34 j)) i;
   size = first_none (Option·map signed_byte (bytes_of 35 j)) i;
-  subscript = or_false (has 36 (tags j)) i;
-  superscript = or_false (has 37 (tags j)) i;
-  dim = or_false (has 38 (tags j)) i;
-  underline = or_false (has 39 (tags j)) i;
+  subscript = or-false (has 36 (tags j)) i;
+  superscript = or-false (has 37 (tags j)) i;
+  dim = or-false (has 38 (tags j)) i;
+  underline = or-false (has 39 (tags j)) i;
 }
 
 -- so all of them, into none

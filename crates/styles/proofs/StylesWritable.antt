@@ -62,7 +62,7 @@ module _ (st : rules.Styles) (t : ℕ) (v : List ℕ) (h : Writable st) where
 past_writable : (s : List ℕ) (st : rules.Styles) (f : Field) (further : ℕ → rules.Styles → rules.Styles) → Writable st
     → ((to : ℕ) (st' : rules.Styles) → Writable st' → Writable (further to st')) → Writable (past_field s st f further)
 unfolding past_field
-past_writable s st (Whole t from to) further h g = g to _ (field_writable st t (take (to _ from) (drop from s)) h)
+past_writable s st (Whole t from to) further h g = g to _ (field_writable st t (take (to - from) (drop from s)) h)
 past_writable s st (Past t) further h g = h
 past_writable s st Cut further h g = h
 

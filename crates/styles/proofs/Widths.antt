@@ -77,7 +77,7 @@ small_width none h = omega arith
 small_width (some (pos n)) h = omega (arith, leb→le n 117 h.le)
 small_width (some (negsuc n)) h = go (ltb 10 (suc n))
   where
-    go : (b : Bool) → not_negative (cond b (negsuc (suc n _ 11)) (pos (10 _ suc n))) < 256
+    go : (b : Bool) → not_negative (cond b (negsuc (suc n - 11)) (pos (10 - suc n))) < 256
     go true = omega arith
     go false = omega arith
 
@@ -102,11 +102,11 @@ unfolding measure no_styles sized byte_width effective or_script
 measured_start v = record { style = no_styles; left = all_left v; width = refl }
 
 module _ {v : List ℕ} {at w : ℕ} (m : Measured v at w) where
-  pub measured_next : {f : Field} {t from to u : ℕ} → f ≡ field_at v at → f ≡ Whole t from to → u ≡ width_with w t (take (to _ from) (drop from v)) → Measured v to u
+  pub measured_next : {f : Field} {t from to u : ℕ} → f ≡ field_at v at → f ≡ Whole t from to → u ≡ width_with w t (take (to - from) (drop from v)) → Measured v to u
   measured_next {t = t} {from} {to} e h q = record {
-    style = with_field m.style t (take (to _ from) (drop from v));
+    style = with_field m.style t (take (to - from) (drop from v));
     left = next_left v at t from to m.style _ e h m.left;
-    width = q ∙ ap (λ (n : ℕ). width_with n t (take (to _ from) (drop from v))) m.width ∙ width_put m.style t (take (to _ from) (drop from v));
+    width = q ∙ ap (λ (n : ℕ). width_with n t (take (to - from) (drop from v))) m.width ∙ width_put m.style t (take (to - from) (drop from v));
   }
 
   pub measured_stopped : {f : Field} → f ≡ field_at v at → ((t from to : ℕ) → f ≡ Whole t from to → ⊥) → w % 256 ≡ byte_width (effective (styles_in v))

@@ -47,7 +47,7 @@ with_field st t v = if right_value t v then put_part st t v else st
 
 -- past the field that was found: a whole one is put in, and `further` goes on behind it; any other stops
 unfoldable pub past_field : List ℕ → Styles → Field → (further : ℕ → Styles → Styles) → Styles
-past_field s st (Whole t from to) further = further to (with_field st t (take (to _ from) (drop from s)))
+past_field s st (Whole t from to) further = further to (with_field st t (take (to - from) (drop from s)))
 past_field s st (Past t) further = st
 past_field s st Cut further = st
 

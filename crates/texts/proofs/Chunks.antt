@@ -1,5 +1,5 @@
 -- A chunk of bytes: whether it has a newline, and how it is passed.
-use Rattle.rules.proofs.Basics.{◌≡◌, refl, sym, ◌∙◌, List, [], ◌∷◌, Bool, true, false, ◌||◌, or_true, or_false, ℕ, zero, suc, ◌+◌, ◌-◌, ◌≤◌, ◌<◌, arith, add-one, eqb, length, take, drop, get_or, drop_of_length-le, length-drop, drop-cons, drop-drop, take_all, eq-eqb, ne_eqb}
+use Rattle.rules.proofs.Basics.{◌≡◌, refl, sym, ◌∙◌, List, [], ◌∷◌, Bool, true, false, ◌||◌, or-true, or-false, ℕ, zero, suc, ◌+◌, ◌-◌, ◌≤◌, ◌<◌, arith, add-one, eqb, length, take, drop, get_or, drop_of_length-le, length-drop, drop-cons, drop-drop, take_all, eq-eqb, ne_eqb}
 use lib.Seq.{take-length}
 use Rattle.rules.specs.Bytes.{has}
 use Rattle.rules.specs.Layout.{parts}
@@ -21,7 +21,7 @@ module _ {v : List ℕ} {i : ℕ} {b : Bool} (l : Looked v i b) where
   unfolding has
   there h e q = rw (q, add-one) record {
     inside = h;
-    further = rw (drop-cons v i 0 h, eq-eqb 10 (get_or v i 0) (sym e), or_true b) at l.further;
+    further = rw (drop-cons v i 0 h, eq-eqb 10 (get_or v i 0) (sym e), or-true b) at l.further;
   }
 
   pub not_there : {r : Bool} → i < length v → (get_or v i 0 ≡ 10 → ⊥) → r ≡ b → Looked v (i + 1) r
@@ -33,7 +33,7 @@ module _ {v : List ℕ} {i : ℕ} {b : Bool} (l : Looked v i b) where
 
   pub all_looked : length v ≤ i → b ≡ has 10 v
   unfolding has
-  all_looked h = rw (drop_of_length-le v h, or_false b) at l.further
+  all_looked h = rw (drop_of_length-le v h, or-false b) at l.further
 
 -- ---- chunk by chunk
 
@@ -67,10 +67,10 @@ no_newline s e =
     let z : first_long (drop (length s) s) ≡ 0 = rw (drop_of_length-le s {i = length s} (omega arith)) in
     omega (arith, o, z)
 
-pub chunk_passed : {v : List ℕ} {at : ℕ} → Passed v at → (n : ℕ) → n ≤ length v _ at → {r : Bool}
-    → r ≡ has 10 (take (at + n _ at) (drop at v)) → r ≡ false → Passed v (at + n)
+pub chunk_passed : {v : List ℕ} {at : ℕ} → Passed v at → (n : ℕ) → n ≤ length v - at → {r : Bool}
+    → r ≡ has 10 (take (at + n - at) (drop at v)) → r ≡ false → Passed v (at + n)
 chunk_passed {v} {at} p n l e f =
-    let k : at + n _ at ≡ n = omega arith in
+    let k : at + n - at ≡ n = omega arith in
     let o : first_long (drop at v) ≡ n + first_long (drop n (drop at v)) =
     over n (drop at v) (omega (arith, length-drop at v)) (rw k at (sym e ∙ f)) in
     record {
@@ -86,16 +86,16 @@ has_later zero s e = e
 has_later (suc n) [] e = e
 has_later (suc n) (x ∷ s) e = has_later n s (not_later (eqb 10 x) (has 10 s) e)
 
-pub end_passed : {v : List ℕ} {at : ℕ} → Passed v at → (n : ℕ) → n ≤ length v → length v _ n ≤ at → {r : Bool}
-    → r ≡ has 10 (take (length v _ n + n _ (length v _ n)) (drop (length v _ n) v)) → r ≡ false → Passed v (length v)
+pub end_passed : {v : List ℕ} {at : ℕ} → Passed v at → (n : ℕ) → n ≤ length v → length v - n ≤ at → {r : Bool}
+    → r ≡ has 10 (take (length v - n + n - (length v - n)) (drop (length v - n) v)) → r ≡ false → Passed v (length v)
 unfolding first_long parts
 end_passed {v} {at} p n l h e f =
-    let from = length v _ n in
-    let k : from + n _ from ≡ n = omega arith in
+    let from = length v - n in
+    let k : from + n - from ≡ n = omega arith in
     let whole : take n (drop from v) ≡ drop from v = take_all n (drop from v) (omega (arith, length-drop from v)) in
     let none : has 10 (drop from v) ≡ false = rw (k, whole) at (sym e ∙ f) in
-    let j : from + (at _ from) ≡ at = omega arith in
-    let rest : has 10 (drop at v) ≡ false = rw (drop-drop (at _ from) from v, j) at (has_later (at _ from) (drop from v) none) in
-    let left : first_long (drop at v) ≡ length v _ at = no_newline (drop at v) rest ∙ length-drop at v in
+    let j : from + (at - from) ≡ at = omega arith in
+    let rest : has 10 (drop at v) ≡ false = rw (drop-drop (at - from) from v, j) at (has_later (at - from) (drop from v) none) in
+    let left : first_long (drop at v) ≡ length v - at = no_newline (drop at v) rest ∙ length-drop at v in
     let z : first_long (drop (length v) v) ≡ 0 = rw (drop_of_length-le v {i = length v} (omega arith)) in
     record { inside = omega arith; further = omega (arith, p.further, p.inside, left, z) }

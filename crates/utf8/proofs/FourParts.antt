@@ -57,26 +57,26 @@ cut s n = rw (take-append-drop n s) at (bits_append 0 (take n s) (drop n s))
 record Upto (s : List ℕ) (from m : ℕ) : Type 0 where
   all : all_bits s ≡ bit_or m (all_bits (drop from s))
 
-further : {s : List ℕ} {m from : ℕ} → Upto s from m → (to : ℕ) → from ≤ to → Upto s to (bit_or m (all_bits (take (to _ from) (drop from s))))
+further : {s : List ℕ} {m from : ℕ} → Upto s from m → (to : ℕ) → from ≤ to → Upto s to (bit_or m (all_bits (take (to - from) (drop from s))))
 further {s} {m} {from} u to h =
-    let k : from + (to _ from) ≡ to = omega arith in
-    let part = take (to _ from) (drop from s) in
-    let behind : all_bits (drop from s) ≡ bit_or (all_bits part) (all_bits (drop to s)) = rw (drop-drop (to _ from) from s, k) at (cut (drop from s) (to _ from)) in
+    let k : from + (to - from) ≡ to = omega arith in
+    let part = take (to - from) (drop from s) in
+    let behind : all_bits (drop from s) ≡ bit_or (all_bits part) (all_bits (drop to s)) = rw (drop-drop (to - from) from s, k) at (cut (drop from s) (to - from)) in
     record { all = u.all ∙ ap (bit_or m) behind ∙ sym (or_assoc m (all_bits part) (all_bits (drop to s))) }
 
 pub all_parts : (s : List ℕ) (n : ℕ) {m l : ℕ} → 4 * n ≤ length s
-    → m ≡ four_bits (take n s) (take (2 * n _ n) (drop n s)) (take (3 * n _ 2 * n) (drop (2 * n) s)) (take (4 * n _ 3 * n) (drop (3 * n) s))
-    → l ≡ all_bits (take (length s _ 4 * n) (drop (4 * n) s)) → bit_or m l ≡ all_bits s
+    → m ≡ four_bits (take n s) (take (2 * n - n) (drop n s)) (take (3 * n - 2 * n) (drop (2 * n) s)) (take (4 * n - 3 * n) (drop (3 * n) s))
+    → l ≡ all_bits (take (length s - 4 * n) (drop (4 * n) s)) → bit_or m l ≡ all_bits s
 all_parts s n h e f =
     let one : Upto s n (all_bits (take n s)) = record { all = cut s n } in
     let four = further (further (further one (2 * n) (omega arith)) (3 * n) (omega arith)) (4 * n) (omega arith) in
-    let rest : take (length s _ 4 * n) (drop (4 * n) s) ≡ drop (4 * n) s = take_all (length s _ 4 * n) (drop (4 * n) s) (omega (arith, length-drop (4 * n) s)) in
+    let rest : take (length s - 4 * n) (drop (4 * n) s) ≡ drop (4 * n) s = take_all (length s - 4 * n) (drop (4 * n) s) (omega (arith, length-drop (4 * n) s)) in
     rw (e, f, rest) (sym four.all)
 
 -- each part is as long as the first
-as_long : (s : List ℕ) (n from to : ℕ) → to _ from ≡ n → to ≤ length s → length (take (to _ from) (drop from s)) ≡ length (take n s)
-as_long s n from to e h = omega (arith, length-take (to _ from) (drop from s), length-drop from s, length-take n s)
+as_long : (s : List ℕ) (n from to : ℕ) → to - from ≡ n → to ≤ length s → length (take (to - from) (drop from s)) ≡ length (take n s)
+as_long s n from to e h = omega (arith, length-take (to - from) (drop from s), length-drop from s, length-take n s)
 
 pub all_as_long : (s : List ℕ) (n : ℕ) → 4 * n ≤ length s
-    → (length (take (2 * n _ n) (drop n s)) ≡ length (take n s)) × (length (take (3 * n _ 2 * n) (drop (2 * n) s)) ≡ length (take n s)) × (length (take (4 * n _ 3 * n) (drop (3 * n) s)) ≡ length (take n s))
+    → (length (take (2 * n - n) (drop n s)) ≡ length (take n s)) × (length (take (3 * n - 2 * n) (drop (2 * n) s)) ≡ length (take n s)) × (length (take (4 * n - 3 * n) (drop (3 * n) s)) ≡ length (take n s))
 all_as_long s n h = (as_long s n n (2 * n) (omega arith) (omega arith), as_long s n (2 * n) (3 * n) (omega arith) (omega arith), as_long s n (3 * n) (4 * n) (omega arith) (omega arith))

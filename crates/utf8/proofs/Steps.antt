@@ -30,10 +30,10 @@ unfolding ranges after
 first n lo hi b e = rw e
 
 -- something is wanted: the next byte in its range, then the rest
-pub one_more : (n lo hi : ℕ) → (n ≡ 0 → ⊥) → ranges n lo hi ≡ lo to hi ∷ ranges (n _ 1) 0x80 0xbf
+pub one_more : (n lo hi : ℕ) → (n ≡ 0 → ⊥) → ranges n lo hi ≡ lo to hi ∷ ranges (n - 1) 0x80 0xbf
 unfolding ranges
 one_more zero lo hi h = absurd (h refl)
-one_more (suc n) lo hi h = let e : suc n _ 1 ≡ n = omega arith in simp (e, tails n)
+one_more (suc n) lo hi h = let e : suc n - 1 ≡ n = omega arith in simp (e, tails n)
 
 -- the byte is below its range, above it, or in it
 module _ (n lo hi b : ℕ) (h : n ≡ 0 → ⊥) where
@@ -45,6 +45,6 @@ module _ (n lo hi b : ℕ) (h : n ≡ 0 → ⊥) where
   unfolding after
   too_high l = rw (one_more n lo hi h, above lo hi b l)
 
-  pub right : lo ≤ b → b ≤ hi → some (ranges (n _ 1) 0x80 0xbf) ≡ after (ranges n lo hi) b
+  pub right : lo ≤ b → b ≤ hi → some (ranges (n - 1) 0x80 0xbf) ≡ after (ranges n lo hi) b
   unfolding after
   right l u = rw (one_more n lo hi h, inside lo hi b l u)

@@ -11,7 +11,7 @@ numbers lo (suc n) = lo ∷ numbers (suc lo) n
 
 -- each byte from lo to hi is followed by x: at numerals `refl` proves it
 abbrev pub Followed : (lo hi : ℕ) → Option (List Range) → Type 0
-Followed lo hi x = map following (numbers lo (suc hi _ lo)) ≡ replicate (suc hi _ lo) x
+Followed lo hi x = map following (numbers lo (suc hi - lo)) ≡ replicate (suc hi - lo) x
 
 same : {A : Type 0} (f : ℕ → A) (x : A) (lo n k : ℕ) → map f (numbers lo n) ≡ replicate n x → k < n → f (lo + k) ≡ x
 same f x lo zero k e h = absurd (omega arith)
@@ -23,5 +23,5 @@ same f x lo (suc n) (suc k) e h =
 -- what the code answers for a byte from lo to hi
 pub between : (lo hi : ℕ) {r begun : Begun} → r ≡ begun → Followed lo hi (wanted begun) → (b : ℕ) → lo ≤ b → b ≤ hi → wanted r ≡ following b
 between lo hi {begun = begun} g e b l h =
-    let s : lo + (b _ lo) ≡ b = omega arith in
-    ap wanted g ∙ sym (rw s at (same following (wanted begun) lo (suc hi _ lo) (b _ lo) e (omega arith)))
+    let s : lo + (b - lo) ≡ b = omega arith in
+    ap wanted g ∙ sym (rw s at (same following (wanted begun) lo (suc hi - lo) (b - lo) e (omega arith)))

@@ -28,10 +28,10 @@ if_broken true e = no_path (cc)
 if_broken false e = refl
 
 -- the bytes of a part, as they are lent
-lent_has : {s : List ℕ} {place from to : ℕ} → Between s place from to → (n : ℕ) {b : Bool} → b ≡ has n (take (to _ from) (drop from s)) → has n (slice from to s) ≡ b
+lent_has : {s : List ℕ} {place from to : ℕ} → Between s place from to → (n : ℕ) {b : Bool} → b ≡ has n (take (to - from) (drop from s)) → has n (slice from to s) ≡ b
 lent_has {s} {from = from} {to} P n f = sym (rw (sliced s from to P.rising) at f)
 
-module _ {s : List ℕ} {place from to : ℕ} (P : Between s place from to) {u : Utf8} (e : u ≡ utf8_answer (take (to _ from) (drop from s))) where
+module _ {s : List ℕ} {place from to : ℕ} (P : Between s place from to) {u : Utf8} (e : u ≡ utf8_answer (take (to - from) (drop from s))) where
   is_sound : u ≡ Sound → utf8 (slice from to s) ≡ true
   unfolding utf8_answer
   is_sound w = if_sound (utf8 (slice from to s)) (sym (rw (sliced s from to P.rising) at e) ∙ w)
@@ -53,7 +53,7 @@ module _ {s : List ℕ} {place from to : ℕ} (P : Between s place from to) {u :
     unfolding sound need ◌>>◌ anchor_content
     broken_name w q = simp (is_broken w) q
 
-    module _ (w : u ≡ Sound) {b : Bool} (f : b ≡ has 34 (take (to _ from) (drop from s))) where
+    module _ (w : u ≡ Sound) {b : Bool} (f : b ≡ has 34 (take (to - from) (drop from s))) where
       pub quoted_name : b ≡ true → x ≡ refused 9 place → x ≡ sound (anchor_content (slice from to s)) place
       unfolding sound need ◌>>◌ anchor_content
       quoted_name z q = simp (is_sound w, lent_has P 34 f, z) q
@@ -79,7 +79,7 @@ module _ {strict : Bool} (v : List ℕ) (p : ℕ) {x : Result (Unit {0})} (e : x
   strict_text q f g = rw q (g ∙ ap₂ (λ x y. x >> y) e f ∙ one_more (utf8 v) (not (has 0 v)) p)
 
 -- a NUL in it
-module _ {s : List ℕ} {place from to : ℕ} (P : Between s place from to) {b : Bool} (f : b ≡ has 0 (take (to _ from) (drop from s))) {x : Result (Unit {0})} where
+module _ {s : List ℕ} {place from to : ℕ} (P : Between s place from to) {b : Bool} (f : b ≡ has 0 (take (to - from) (drop from s))) {x : Result (Unit {0})} where
   pub a_nul : b ≡ true → x ≡ refused 14 place → x ≡ need (not (has 0 (slice from to s))) 14 place
   unfolding need
   a_nul z q = simp (lent_has P 0 f, z) q

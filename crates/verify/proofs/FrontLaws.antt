@@ -108,7 +108,7 @@ module _ (s : List ℕ) (at : ℕ) (h : Holder) (d before p : ℕ) where
       let k : ℕ = length (drop (at + 3) s) in
       let n : number (map itself (a ∷ b ∷ [])) ≡ length_at s at = omega (arith, number_two a b) in
       let two : leb 2 (suc (suc k)) ≡ true = le-leb 2 (suc (suc k)) (omega arith) in
-      let less : suc (suc k) _ 2 ≡ k = omega arith in
+      let less : suc (suc k) - 2 ≡ k = omega arith in
       ap (front_of h d before p) (drop_three s at three) ∙ simp (two, n, less, fits three, drop-drop (length_at s at) (at + 3) s)
       (three_answer (leb (at + 3 + length_at s at) (length s)) (allowed h before (get_or s at 0)) p (After s at d p))
     where

@@ -1,5 +1,5 @@
 -- What a quick look finds is sound: style's fields in order, and a 17 that fills a text.
-use Rattle.rules.proofs.Basics.{◌≡◌, refl, sym, ◌∙◌, ap, List, [], ◌∷◌, ◌++◌, Bool, true, false, ◌&&◌, ◌||◌, not, or_false, ℕ, ◌+◌, ◌-◌, ◌*◌, ◌≤◌, ◌<◌, arith, eqb, length, get_or, take, drop, lt-ltb, eq-eqb, ne_eqb, eqb-true, eqb-false}
+use Rattle.rules.proofs.Basics.{◌≡◌, refl, sym, ◌∙◌, ap, List, [], ◌∷◌, ◌++◌, Bool, true, false, ◌&&◌, ◌||◌, not, or-false, ℕ, ◌+◌, ◌-◌, ◌*◌, ◌≤◌, ◌<◌, arith, eqb, length, get_or, take, drop, lt-ltb, eq-eqb, ne_eqb, eqb-true, eqb-false}
 use lib.Seq.{slice, length-slice, slice-cons}
 use Rattle.rules.specs.Limits.{first_style, last_style}
 use Rattle.rules.specs.Bytes.{has, number}
@@ -45,7 +45,7 @@ with_script a b true y h f g = rw (f refl) (nothing (a || true))
     nothing true = refl
     nothing false = refl
 with_script a b false true h f g = rw (g refl)
-with_script a b false false h f g = rw (or_false a, or_false b) h
+with_script a b false false h f g = rw (or-false a, or-false b) h
 
 module _ {m before t : ℕ} {ts : List ℕ} (U : Upto m before ts) (l : m < t) where
   absent : (k : ℕ) → m < k → (k ≡ t → ⊥) → (has k ts || eqb k t) ≡ false
@@ -143,7 +143,7 @@ module _ {s : List ℕ} {at stop t n to : ℕ} (h : stop < length s) (Q : Passed
   long_value i = length-slice (at + 3) to s (omega (arith, Q.inside)) ∙ omega (arith, Q.long i)
 
   -- the value, as it is lent
-  pub lent_long : (to ≡ at → ⊥) → length (take (to _ (at + 3)) (drop (at + 3) s)) ≡ n
+  pub lent_long : (to ≡ at → ⊥) → length (take (to - (at + 3)) (drop (at + 3) s)) ≡ n
   lent_long i = rw (sliced s (at + 3) to (omega (arith, Q.long i))) (long_value i)
 
   passed_right : ((to ≡ at → ⊥) → (p : ℕ) → accepted tt ≡ style_verdict t (slice (at + 3) to s) p) → PassedRight s stop t at to
@@ -152,7 +152,7 @@ module _ {s : List ℕ} {at stop t n to : ℕ} (h : stop < length s) (Q : Passed
   pub plain_right : Plain t n → PassedRight s stop t at to
   plain_right T = passed_right (λ i p. by_content t _ p (rw (long_value i) T.length_right) (no_content t _ p T.low T.no_opacity T.no_size))
 
-  pub opacity_right : t ≡ 33 → n ≡ 4 → {w : ℕ} {b : Bool} → w ≡ number (take (to _ (at + 3)) (drop (at + 3) s)) → b ≡ right_opacity w → b ≡ true → PassedRight s stop t at to
+  pub opacity_right : t ≡ 33 → n ≡ 4 → {w : ℕ} {b : Bool} → w ≡ number (take (to - (at + 3)) (drop (at + 3) s)) → b ≡ right_opacity w → b ≡ true → PassedRight s stop t at to
   unfolding right_length
   opacity_right e f w q z =
       passed_right (λ i p.
@@ -192,14 +192,14 @@ module _ {s : List ℕ} {stop from coloured : ℕ} (h : stop < length s) (Q : Pa
 
 -- ---- bytes
 
-pub ascii_slice : (s : List ℕ) (from to : ℕ) {n : ℕ} → from ≤ to → n ≡ all_bits (take (to _ from) (drop from s)) → n < 128 → utf8 (slice from to s) ≡ true
+pub ascii_slice : (s : List ℕ) (from to : ℕ) {n : ℕ} → from ≤ to → n ≡ all_bits (take (to - from) (drop from s)) → n < 128 → utf8 (slice from to s) ≡ true
 unfolding utf8_answer
 ascii_slice s from to l e h = if_sound (utf8 (slice from to s)) (sym (rw (sliced s from to l) at (ascii _ e h)))
 
 -- ---- a 17 that fills a text
 
-pub fill_said : (s : List ℕ) (at end : ℕ) {a b : ℕ} → get_or s at 0 ≡ 17 → a ≡ get_or s (at + 1) 0 → b ≡ get_or s (at + 2) 0 → at + 3 ≤ end → Says (eqb (a * 256 + b) (end _ at _ 3)) (Stands s 17 at end)
-fill_said s at end {a} {b} t p q h = record { says = λ e. record { tag = t; ends = omega (arith, eqb-true (a * 256 + b) (end _ at _ 3) e, p, q) } }
+pub fill_said : (s : List ℕ) (at end : ℕ) {a b : ℕ} → get_or s at 0 ≡ 17 → a ≡ get_or s (at + 1) 0 → b ≡ get_or s (at + 2) 0 → at + 3 ≤ end → Says (eqb (a * 256 + b) (end - at - 3)) (Stands s 17 at end)
+fill_said s at end {a} {b} t p q h = record { says = λ e. record { tag = t; ends = omega (arith, eqb-true (a * 256 + b) (end - at - 3) e, p, q) } }
 
 module _ {s : List ℕ} {place at end : ℕ} (P : Between s place at end) (S : Stands s 17 at end) (u : utf8 (slice (at + 3) end s) ≡ true) (d : ℕ) where
   filled : (before : ℕ) (ts : List ℕ) → TextLeft before ts s at end → RestSaid false in_text ts d before place at (slice at end s) (accepted tt)

@@ -8,7 +8,7 @@ use Rattle.verify.specs.Walked.{Between}
 pub up_to : {s : List ℕ} {place from end : ℕ} → Between s place from end → length (take end s) ≡ end
 up_to {s} {end = end} P = length-take-le end s P.ends
 
-pub part_length : {s : List ℕ} {place from end : ℕ} → Between s place from end → length (slice from end s) ≡ end _ from
+pub part_length : {s : List ℕ} {place from end : ℕ} → Between s place from end → length (slice from end s) ≡ end - from
 part_length {s} {from = from} {end} P = length-slice from end s P.ends
 
 pub part_anywhere : {s : List ℕ} {place from end : ℕ} → Between s place from end → Between s 0 from end
@@ -25,5 +25,5 @@ pub part_of_part : (s : List ℕ) (from to end n : ℕ) → from + n ≡ to → 
 part_of_part s from to end n e h = take_drop n from (take end s) ∙ rw e (ap (drop from) (take-take to end s h))
 
 -- the bytes of a slice, as a callee has them
-pub sliced : (s : List ℕ) (from to : ℕ) → from ≤ to → take (to _ from) (drop from s) ≡ slice from to s
-sliced s from to h = let e : from + (to _ from) ≡ to = omega arith in take_drop (to _ from) from s ∙ rw e
+pub sliced : (s : List ℕ) (from to : ℕ) → from ≤ to → take (to - from) (drop from s) ≡ slice from to s
+sliced s from to h = let e : from + (to - from) ≡ to = omega arith in take_drop (to - from) from s ∙ rw e

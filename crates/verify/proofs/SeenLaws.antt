@@ -1,5 +1,5 @@
 -- What the tags so far say of a text, of an anchor and of a 16, and what is wrong at the end by it.
-use Rattle.rules.proofs.Basics.{◌≡◌, refl, sym, ◌∙◌, ap, List, [], ◌∷◌, ◌++◌, Bool, true, false, ◌&&◌, ◌||◌, not, or_true, ℕ, ◌<◌, arith, eqb, get_or, ne_eqb, eqb-true, eqb-false}
+use Rattle.rules.proofs.Basics.{◌≡◌, refl, sym, ◌∙◌, ap, List, [], ◌∷◌, ◌++◌, Bool, true, false, ◌&&◌, ◌||◌, not, or-true, ℕ, ◌<◌, arith, eqb, get_or, ne_eqb, eqb-true, eqb-false}
 use Rattle.rules.specs.Bytes.{has}
 use Rattle.rules.specs.Result.{Result, refused, accepted, ◌>>◌, need, Check, ◌or_refuse◌, sound}
 use Rattle.rules.specs.Walk.{in_text, in_anchor, in_styles, complete, allowed, allowed_to}
@@ -106,7 +106,7 @@ no_text ts p e q = simp e q
 
 pub whole_text : (ts : List ℕ) (p : ℕ) {x : Result (Unit {0})} → x ≡ accepted tt → x ≡ sound (complete in_text (ts ++ (17 ∷ []))) p
 unfolding sound need ◌>>◌ complete
-whole_text ts p q = simp (has_last 17 17 ts, or_true (has 17 ts)) q
+whole_text ts p q = simp (has_last 17 17 ts, or-true (has 17 ts)) q
 
 -- ---- an anchor: its name, then texts
 

@@ -105,7 +105,7 @@ module _ (strict : Bool) (u : List ℕ) (h : Holder) (ts : List ℕ) (d before p
       >> (value_result strict t d at (value_at u at) >>= λ g. rest_result strict h (ts ++ (t ∷ [])) d t place next (drop next u)))
   unfolding rest_result value_result
   rest_turn l =
-      let k : ℕ = length u _ at _ 1 in
+      let k : ℕ = length u - at - 1 in
       let fuel : length (drop at u) ≡ suc k = omega (arith, length-drop at u) in
       let last : Fields ℕ → Result (Unit {0}) = λ i. sound (complete h (ts ++ tags i)) place in
       let inside : Field ℕ → Result (Value ℕ) = λ f. content_result strict f.tag d at f.value in

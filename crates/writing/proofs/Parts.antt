@@ -23,7 +23,7 @@ past_the_end page at text c e h = record { next = rw c e; page_is = sym (with_ou
 -- ---- the n bytes that fit
 
 module _ (page : List ℕ) (at : ℕ) (text : List ℕ) (n : ℕ) (in_reach : length page ≤ last) (inside : at ≤ length page)
-    (e : n ≡ min (length page _ at) (length text)) where
+    (e : n ≡ min (length page - at) (length text)) where
   with_front : with_text page at text ≡ with_text page at (take n text)
   unfolding moved
   with_front =
@@ -51,19 +51,19 @@ module _ (page : List ℕ) (at : ℕ) (text : List ℕ) (n : ℕ) (in_reach : le
 
 module _ (page : List ℕ) (at : ℕ) (text : List ℕ) {l : ℕ} (c : length text ≡ l) (in_reach : length page ≤ last) (inside : at < length page) where
   -- all of it fits
-  pub all_fits : {ys : List ℕ} → l ≤ length page _ at → ys ≡ text → Written page at text (take at page ++ (ys ++ drop ((at + l) _ at) (drop at page))) (at + l)
+  pub all_fits : {ys : List ℕ} → l ≤ length page - at → ys ≡ text → Written page at text (take at page ++ (ys ++ drop ((at + l) - at) (drop at page))) (at + l)
   unfolding moved
   all_fits h q =
       let p : at + l ≡ min (at + length text) (max at last) = omega arith in
-      let k : (at + l) _ at ≡ l = omega arith in
+      let k : (at + l) - at ≡ l = omega arith in
       let i : at ≤ length page = omega arith in
-      record { next = p; page_is = part_is page at text l in_reach i (omega arith) ((at + l) _ at) k (q ∙ sym (take_all l text (omega arith))) }
+      record { next = p; page_is = part_is page at text l in_reach i (omega arith) ((at + l) - at) k (q ∙ sym (take_all l text (omega arith))) }
 
   -- or what stands before the page's end
-  pub some_fits : {ys : List ℕ} {r : ℕ} → length page _ at < l → r ≡ moved at l → ys ≡ take (length page _ at) text
-      → Written page at text (take at page ++ (ys ++ drop (length page _ at) (drop at page))) r
+  pub some_fits : {ys : List ℕ} {r : ℕ} → length page - at < l → r ≡ moved at l → ys ≡ take (length page - at) text
+      → Written page at text (take at page ++ (ys ++ drop (length page - at) (drop at page))) r
   some_fits h p q =
-      let n = length page _ at in
+      let n = length page - at in
       let i : at ≤ length page = omega arith in
       record { next = rw c p; page_is = part_is page at text n in_reach i (omega arith) n refl q }
 
@@ -75,18 +75,18 @@ take_replicate (suc n) zero b h = absurd (omega arith)
 take_replicate (suc n) (suc m) b h = ap (b ∷◌) (take_replicate n m b (omega arith))
 
 -- a part of k bytes
-part_length : (page : List ℕ) (at k : ℕ) → k ≤ length page _ at → length (take k (drop at page)) ≡ k
+part_length : (page : List ℕ) (at k : ℕ) → k ≤ length page - at → length (take k (drop at page)) ≡ k
 part_length page at k h = rw (length-take, length-drop) (omega arith)
 
 module _ (page : List ℕ) (at m b : ℕ) (in_reach : length page ≤ last) (inside : at < length page) {ys : List ℕ} where
-  pub all_spaces_fit : m ≤ length page _ at → ys ≡ replicate (length (take ((at + m) _ at) (drop at page))) b
-      → Written page at (replicate m b) (take at page ++ (ys ++ drop ((at + m) _ at) (drop at page))) (at + m)
+  pub all_spaces_fit : m ≤ length page - at → ys ≡ replicate (length (take ((at + m) - at) (drop at page))) b
+      → Written page at (replicate m b) (take at page ++ (ys ++ drop ((at + m) - at) (drop at page))) (at + m)
   all_spaces_fit h f =
-      let k : (at + m) _ at ≡ m = omega arith in
+      let k : (at + m) - at ≡ m = omega arith in
       all_fits page at (replicate m b) (length-replicate m b) in_reach inside h (f ∙ rw (k, part_length page at m h))
 
-  pub some_spaces_fit : {r : ℕ} → length page _ at < m → r ≡ moved at m → ys ≡ replicate (length (take (length page _ at) (drop at page))) b
-      → Written page at (replicate m b) (take at page ++ (ys ++ drop (length page _ at) (drop at page))) r
+  pub some_spaces_fit : {r : ℕ} → length page - at < m → r ≡ moved at m → ys ≡ replicate (length (take (length page - at) (drop at page))) b
+      → Written page at (replicate m b) (take at page ++ (ys ++ drop (length page - at) (drop at page))) r
   some_spaces_fit h p f =
-      let n = length page _ at in
+      let n = length page - at in
       some_fits page at (replicate m b) (length-replicate m b) in_reach inside h p (f ∙ rw (part_length page at n (omega arith), take_replicate n m b (omega arith)))

@@ -8,6 +8,6 @@ use Rattle.alike.proofs.copy.Statement.{statement}
 use Rattle.alike.proofs.copy.Tie as tie
 
 pub copy_spec : {M : Type 1} → statement M
-copy_spec = tie.close (tie.spec (λ from into₀ at₀ into at. (length into ≡ length into₀) × (at ≤ length into₀)) (λ from into₀ at₀ into at. length into₀ _ at)
+copy_spec = tie.close (tie.spec (λ from into₀ at₀ into at. (length into ≡ length into₀) × (at ≤ length into₀)) (λ from into₀ at₀ into at. length into₀ - at)
     (λ c. search rules) (λ c. (refl, omega arith)) (λ c. search rules) (λ c. search rules) (λ c. search rules)
     (λ c. search rules) (λ c. search rules) (λ c. search rules) (λ c. search rules))

@@ -6,6 +6,6 @@ use Rattle.alike.proofs.differ_where_copied.Statement.{statement}
 use Rattle.alike.proofs.differ_where_copied.Tie as tie
 
 pub differ-where-copied-spec : {M : Type 1} → statement M
-differ-where-copied-spec = tie.close (tie.spec (λ file mask other at₀ at. at ≤ length file) (λ file mask other at₀ at. length file _ at)
+differ-where-copied-spec = tie.close (tie.spec (λ file mask other at₀ at. at ≤ length file) (λ file mask other at₀ at. length file - at)
     (λ c. search rules) (λ c. search rules) (λ c. search rules) (λ c. search rules) (λ c. search rules)
     (λ c. search rules) (λ c. search rules) (λ c. search rules) (λ c. search rules) (λ c. search rules) (λ c. search rules) (λ c. search rules))

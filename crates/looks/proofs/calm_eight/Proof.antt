@@ -5,7 +5,7 @@ use Rattle.looks.proofs.calm_eight.Statement.{statement}
 use Rattle.looks.proofs.calm_eight.Tie as tie
 
 pub calm-eight-spec : {M : Type 1} → statement M
-calm-eight-spec = tie.close (tie.spec (λ s from odd found₀ k₀ found k. Looked odd s from k found) (λ s from odd found₀ k₀ found k. 8 _ k)
+calm-eight-spec = tie.close (tie.spec (λ s from odd found₀ k₀ found k. Looked odd s from k found) (λ s from odd found₀ k₀ found k. 8 - k)
     (λ c. none_looked _ _ _) (λ c. search needs) (λ c. search needs) (λ c κs. search needs) (λ c. search needs) (λ c. search needs)
     (λ c. let turn = c.before.before in
     ⊎_elim (λ h. one_found turn.before.before.loop.invariant (omega arith) h.1)

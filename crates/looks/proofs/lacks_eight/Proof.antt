@@ -5,7 +5,7 @@ use Rattle.looks.proofs.lacks_eight.Statement.{statement}
 use Rattle.looks.proofs.lacks_eight.Tie as tie
 
 pub lacks-eight-spec : {M : Type 1} → statement M
-lacks-eight-spec = tie.close (tie.spec (λ s from odd found₀ i₀ found i. Sought odd s from i found) (λ s from odd found₀ i₀ found i. 8 _ i)
+lacks-eight-spec = tie.close (tie.spec (λ s from odd found₀ i₀ found i. Sought odd s from i found) (λ s from odd found₀ i₀ found i. 8 - i)
     (λ c. none_sought _ _ _) (λ c. search needs) (λ c. search needs) (λ c. search needs) (λ c. search needs)
     (λ c. let turn = c.before.before in
     ⊎_elim (λ h. is_there turn.before.loop.invariant (omega arith) h.1)

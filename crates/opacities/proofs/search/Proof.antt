@@ -7,7 +7,7 @@ use Rattle.opacities.proofs.search.Statement.{statement}
 use Rattle.opacities.proofs.search.Tie as tie
 
 pub search-spec : {M : Type 1} → statement M
-search-spec = tie.close (tie.spec (λ m u d t₀ places₀ t places. Turn m u d t places) (λ m u d t₀ places₀ t places. 10 _ places)
+search-spec = tie.close (tie.spec (λ m u d t₀ places₀ t places. Turn m u d t places) (λ m u d t₀ places₀ t places. 10 - places)
     (λ c. start)
     (λ c κs. let s = c.before.requires.0 in
     record { m_lt = s.m_lt; u_pos = s.u_pos; u_le = s.u_le; d_le = s.d_le; t_le = power_le c.loop.invariant })

@@ -7,7 +7,7 @@ abbrev invariant-loop : tie.invariant-loop
 invariant-loop s₀ page₀ at₀ s page at = (length s ≡ length s₀) × (length page ≡ length page₀) × (at ≤ length s)
 
 abbrev decreases-loop : tie.decreases-loop
-decreases-loop s₀ page₀ at₀ s page at = length s₀ _ at
+decreases-loop s₀ page₀ at₀ s page at = length s₀ - at
 
 pub replay-spec : {M : Type 1} → statement M
 replay-spec =

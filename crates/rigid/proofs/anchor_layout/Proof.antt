@@ -7,7 +7,7 @@ use Rattle.rigid.proofs.anchor_layout.Statement.{statement}
 use Rattle.rigid.proofs.anchor_layout.Tie as tie
 
 pub anchor-layout-spec : {M : Type 1} → statement M
-anchor-layout-spec = tie.close (tie.spec (λ s from end so-far₀ at₀ so_far at. RunsLeft s from end at (shape so_far)) (λ s from end so-far₀ at₀ so_far at. end _ at)
+anchor-layout-spec = tie.close (tie.spec (λ s from end so-far₀ at₀ so_far at. RunsLeft s from end at (shape so_far)) (λ s from end so-far₀ at₀ so_far at. end - at)
     (λ c κs. search needs) (λ c. search all_runs) (λ c κs. search needs)
     (λ c κs. (search ends_rise, search ends_inside_file)) (λ c. search ends_less)
     (λ c. search next_run)

@@ -6,7 +6,7 @@ use Rattle.styles.proofs.byte_width_in.Statement.{statement}
 use Rattle.styles.proofs.byte_width_in.Tie as tie
 
 pub byte-width-in-spec : {M : Type 1} → statement M
-byte-width-in-spec = tie.close (tie.spec (λ v w₀ at₀ w at. Measured v at w) (λ v w₀ at₀ w at. length v _ at)
+byte-width-in-spec = tie.close (tie.spec (λ v w₀ at₀ w at. Measured v at w) (λ v w₀ at₀ w at. length v - at)
     (λ c. measured_start _) (λ c κs. search needs) (λ c. search needs)
     (λ c. measured_stopped c.before.before.before.loop.invariant c.before.field_at.ensures (λ t from to e. ⊎_elim (λ k. omega arith) (λ k. omega arith) (rw e at c.match.keys2)))
     (λ c. search rises) (λ c. search rises) (λ c. search ends) (λ c κs. search needs)

@@ -7,7 +7,7 @@ use Rattle.styles.proofs.read_styles.Statement.{statement}
 use Rattle.styles.proofs.read_styles.Tie as tie
 
 pub read-styles-spec : {M : Type 1} → statement M
-read-styles-spec = tie.close (tie.spec (λ v st₀ at₀ st at. Left v at (said_styles st)) (λ v st₀ at₀ st at. length v _ at)
+read-styles-spec = tie.close (tie.spec (λ v st₀ at₀ st at. Left v at (said_styles st)) (λ v st₀ at₀ st at. length v - at)
     (λ c κs. search needs) (λ c κs. search needs) (λ c. search needs) (λ c. search needs) (λ c. omega (arith, (c.before.is-colour.ensures c.if1.true).last)) (λ c κs. search needs)
     (λ c. let i = c.before.before in c.with-colour.ensures ∙ rw i.before.before.none.ensures (alone_read _ (i.before.is-colour.ensures i.if1.true)))
     (λ c. rw c.before.before.none.ensures (all_left _)) (λ c κs. search needs) (λ c. search needs)

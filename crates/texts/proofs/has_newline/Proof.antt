@@ -5,7 +5,7 @@ use Rattle.texts.proofs.has_newline.Statement.{statement}
 use Rattle.texts.proofs.has_newline.Tie as tie
 
 pub has-newline-spec : {M : Type 1} → statement M
-has-newline-spec = tie.close (tie.spec (λ v found₀ i₀ found i. Looked v i found) (λ v found₀ i₀ found i. length v _ i)
+has-newline-spec = tie.close (tie.spec (λ v found₀ i₀ found i. Looked v i found) (λ v found₀ i₀ found i. length v - i)
     (λ c. none_looked _) (λ c. search needs) (λ c. search needs) (λ c. search needs)
     (λ c. let turn = c.before.before in
     ⊎_elim (λ h. there turn.before.loop.invariant (omega arith) h.0.taken h.1)

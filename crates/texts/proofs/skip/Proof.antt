@@ -6,7 +6,7 @@ use Rattle.texts.proofs.skip.Statement.{statement}
 use Rattle.texts.proofs.skip.Tie as tie
 
 pub skip-spec : {M : Type 1} → statement M
-skip-spec = tie.close (tie.spec (λ v at₀ at. Passed v at) (λ v at₀ at. length v _ at)
+skip-spec = tie.close (tie.spec (λ v at₀ at. Passed v at) (λ v at₀ at. length v - at)
     (λ c. none_passed _) (λ c. search needs) (λ c. search needs) (λ c. search needs) (λ c. search needs)
     (λ c. search needs) (λ c κs. search needs) (λ c. c.before.before.before.before.loop.invariant) (λ c. search needs)
     (λ c. let turn = c.before.before.before in

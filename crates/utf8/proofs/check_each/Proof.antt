@@ -8,7 +8,7 @@ use Rattle.utf8.proofs.check_each.Statement.{statement}
 use Rattle.utf8.proofs.check_each.Tie as tie
 
 pub check-each-spec : {M : Type 1} → statement M
-check-each-spec = tie.close (tie.spec (λ s owed₀ i₀ owed i. (i ≤ length s) × (utf8_after (wanted_by owed) (drop i s) ≡ utf8 s)) (λ s owed₀ i₀ owed i. length s _ i)
+check-each-spec = tie.close (tie.spec (λ s owed₀ i₀ owed i. (i ≤ length s) × (utf8_after (wanted_by owed) (drop i s) ≡ utf8 s)) (λ s owed₀ i₀ owed i. length s - i)
     (λ c. unfold utf8 ranges in (search needs, refl)) (λ c. search needs) (λ c κs. search needs) (λ c. search needs)
     (λ c. search needs)
     (λ c. let turn = c.before.before.before.before in

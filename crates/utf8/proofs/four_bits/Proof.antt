@@ -9,7 +9,7 @@ abbrev invariant-loop : tie.invariant-loop
 invariant-loop a b c d first₀ second₀ third₀ fourth₀ i₀ first second third fourth i = (i ≤ length a) × Or a i first × Or b i second × Or c i third × Or d i fourth
 
 abbrev decreases-loop : tie.decreases-loop
-decreases-loop a b c d first₀ second₀ third₀ fourth₀ i₀ first second third fourth i = length a _ i
+decreases-loop a b c d first₀ second₀ third₀ fourth₀ i₀ first second third fourth i = length a - i
 
 loop-holds : tie.Need-loop-init invariant-loop decreases-loop
 loop-holds c = (search needs, none_or _, none_or _, none_or _, none_or _)

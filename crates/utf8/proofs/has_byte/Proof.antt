@@ -6,7 +6,7 @@ use Rattle.utf8.proofs.has_byte.Statement.{statement}
 use Rattle.utf8.proofs.has_byte.Tie as tie
 
 pub has-byte-spec : {M : Type 1} → statement M
-has-byte-spec = tie.close (tie.spec (λ s b i₀ i. (i ≤ length s) × (has b (drop i s) ≡ has b s)) (λ s b i₀ i. length s _ i)
+has-byte-spec = tie.close (tie.spec (λ s b i₀ i. (i ≤ length s) × (has b (drop i s) ≡ has b s)) (λ s b i₀ i. length s - i)
     (λ c. (search needs, refl)) (λ c. search needs)
     (λ c. let turn = c.before.before in
     found _ _ _ turn.before.loop.invariant.1 turn.loop-test.true c.if1.true)

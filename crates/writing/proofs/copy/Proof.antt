@@ -5,7 +5,7 @@ use Rattle.writing.proofs.copy.Statement.{statement}
 use Rattle.writing.proofs.copy.Tie as tie
 
 pub copy_spec : {M : Type 1} → statement M
-copy_spec = tie.close (tie.spec (λ to₀ s i₀ to i. Copied s (length s) to i) (λ to₀ s i₀ to i. length s _ i)
+copy_spec = tie.close (tie.spec (λ to₀ s i₀ to i. Copied s (length s) to i) (λ to₀ s i₀ to i. length s - i)
     (λ c. none_copied refl c.requires) (λ c. search needs) (λ c. search needs) (λ c. search needs) (λ c. search needs)
     (λ c. one_more c.before.before.loop.invariant c.before.loop-test.true _ refl) (λ c. search needs)
     (λ c. all_copied c.before.loop.invariant c.loop-test.false))

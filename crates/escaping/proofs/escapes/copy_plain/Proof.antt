@@ -9,7 +9,7 @@ abbrev invariant-loop : tie.invariant-loop
 invariant-loop page₀ at text n₀ page n = (p : List ℕ) → Begun p at text page₀ n₀ → Begun p at text page n
 
 abbrev decreases-loop : tie.decreases-loop
-decreases-loop page₀ at text n₀ page n = length text _ n
+decreases-loop page₀ at text n₀ page n = length text - n
 
 slice-write-page : tie.Need-slice-write-page invariant-loop decreases-loop
 slice-write-page c =

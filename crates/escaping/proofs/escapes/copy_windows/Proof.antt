@@ -9,7 +9,7 @@ abbrev invariant-loop : tie.invariant-loop
 invariant-loop page₀ at text n₀ page n = Begun page₀ at text page n
 
 abbrev decreases-loop : tie.decreases-loop
-decreases-loop page₀ at text n₀ page n = length text _ n
+decreases-loop page₀ at text n₀ page n = length text - n
 
 loop-again : tie.Need-loop-preserved invariant-loop decreases-loop
 loop-again c =

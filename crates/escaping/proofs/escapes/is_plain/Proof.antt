@@ -8,7 +8,7 @@ abbrev invariant-loop : tie.invariant-loop
 invariant-loop text found₀ k₀ found k = Looked text k found
 
 abbrev decreases-loop : tie.decreases-loop
-decreases-loop text found₀ k₀ found k = 8 _ k
+decreases-loop text found₀ k₀ found k = 8 - k
 
 pub is-plain-spec : {M : Type 1} → statement M
 is-plain-spec =

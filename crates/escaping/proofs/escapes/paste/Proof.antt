@@ -9,7 +9,7 @@ abbrev invariant-loop : tie.invariant-loop
 invariant-loop page₀ at w k₀ page k = Pasted page₀ at w page k
 
 abbrev decreases-loop : tie.decreases-loop
-decreases-loop page₀ at w k₀ page k = 8 _ k
+decreases-loop page₀ at w k₀ page k = 8 - k
 
 returns : tie.Need-returns invariant-loop decreases-loop
 returns c =

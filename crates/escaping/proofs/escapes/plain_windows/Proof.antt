@@ -9,7 +9,7 @@ abbrev invariant-loop : tie.invariant-loop
 invariant-loop text n₀ n = PlainTo text n
 
 abbrev decreases-loop : tie.decreases-loop
-decreases-loop text n₀ n = length text _ n
+decreases-loop text n₀ n = length text - n
 
 pub plain-windows-spec : {M : Type 1} → statement M
 plain-windows-spec =

@@ -9,7 +9,7 @@ abbrev invariant-loop : tie.invariant-loop
 invariant-loop text n₀ n = NoReturnTo text n
 
 abbrev decreases-loop : tie.decreases-loop
-decreases-loop text n₀ n = length text _ n
+decreases-loop text n₀ n = length text - n
 
 pub first-return-spec : {M : Type 1} → statement M
 first-return-spec = tie.close (tie.spec invariant-loop decreases-loop (λ c κs. search needs) (λ c. c.skip_windows.ensures) (λ c. search needs)

@@ -9,7 +9,7 @@ abbrev invariant-loop : tie.invariant-loop
 invariant-loop page₀ at text next₀ i₀ page next i = So page₀ at text page next i
 
 abbrev decreases-loop : tie.decreases-loop
-decreases-loop page₀ at text next₀ i₀ page next i = length text _ i
+decreases-loop page₀ at text next₀ i₀ page next i = length text - i
 
 returns : tie.Need-returns invariant-loop decreases-loop
 returns c = search last_part

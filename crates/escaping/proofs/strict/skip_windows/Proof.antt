@@ -9,7 +9,7 @@ abbrev invariant-loop : tie.invariant-loop
 invariant-loop text n₀ n = NoReturnTo text n
 
 abbrev decreases-loop : tie.decreases-loop
-decreases-loop text n₀ n = length text _ n
+decreases-loop text n₀ n = length text - n
 
 pub skip-windows-spec : {M : Type 1} → statement M
 skip-windows-spec = tie.close (tie.spec invariant-loop decreases-loop (λ c. none_counted _) (λ c. let l : tie.At-loop invariant-loop decreases-loop = search in l.loop.inv.within) (λ c. search needs) (λ c κs. search needs)

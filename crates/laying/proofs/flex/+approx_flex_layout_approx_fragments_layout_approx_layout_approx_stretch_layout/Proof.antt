@@ -41,16 +41,16 @@ use Rattle.laying.proofs.flex.+approx_flex_layout_approx_fragments_layout_approx
 use Rattle.laying.proofs.flex.+approx_flex_layout_approx_fragments_layout_approx_layout_approx_stretch_layout.Tie.{close}
 
 abbrev μ-approx-flex-layout : Measures 2 approx-flex-layout-kinds.ps ℕ
-μ-approx-flex-layout κs a = 4 * (32 _ a.1.1.1.1.1.1.1.0)
+μ-approx-flex-layout κs a = 4 * (32 - a.1.1.1.1.1.1.1.0)
 
 abbrev μ-approx-fragments-layout : Measures 2 approx-fragments-layout-kinds.ps ℕ
-μ-approx-fragments-layout κs a = 4 * (32 _ a.1.1.1.1.1.1.0) + 3
+μ-approx-fragments-layout κs a = 4 * (32 - a.1.1.1.1.1.1.0) + 3
 
 abbrev μ-approx-layout : Measures 2 approx-layout-kinds.ps ℕ
-μ-approx-layout κs a = 4 * (32 _ a.1.1.1.1.1.1.0) + 2
+μ-approx-layout κs a = 4 * (32 - a.1.1.1.1.1.1.0) + 2
 
 abbrev μ-approx-stretch-layout : Measures 2 approx-stretch-layout-kinds.ps ℕ
-μ-approx-stretch-layout κs a = 4 * (32 _ a.1.1.1.1.1.1.1.1.0) + 1
+μ-approx-stretch-layout κs a = 4 * (32 - a.1.1.1.1.1.1.1.1.0) + 1
 
 pub +approx-flex-layout-approx-fragments-layout-approx-layout-approx-stretch-layout-spec : {M : Type 1} → statement M
 +approx-flex-layout-approx-fragments-layout-approx-layout-approx-stretch-layout-spec =
@@ -80,7 +80,7 @@ pub +approx-flex-layout-approx-fragments-layout-approx-layout-approx-stretch-lay
     (inline-reads.Asked, inline-reads.Learnt, field-in-reads.Asked, field-in-reads.Learnt, below 2 approx-layout-kinds.ps μ-approx-layout approx-layout.Pre t, approx-layout.Post, append-reads.Asked, append-reads.Learnt, told-reads.Asked, told-reads.Learnt)
     (at 2 approx-fragments-layout-kinds.ps μ-approx-fragments-layout approx-fragments-layout.Pre t) approx-fragments-layout.Post
     (λ s bits₀ from end inline-max block-max depth layout₀ at₀ bits layout at. FragmentsAt depth inline-max block-max from s end bits₀ at (shape layout) bits)
-    (λ s bits₀ from end inline-max block-max depth layout₀ at₀ bits layout at. end _ at)
+    (λ s bits₀ from end inline-max block-max depth layout₀ at₀ bits layout at. end - at)
     (λ c κs. search needs)
     (λ c. let b = c.before.before in fragments_start b.requires.1.0 b.requires.1.1 c.inline.ensures)
     (λ c κs. let P = c.before.loop.invariant.come.part in (P.rising, P.ends))
@@ -98,7 +98,7 @@ pub +approx-flex-layout-approx-fragments-layout-approx-layout-approx-stretch-lay
     (inline-reads.Asked, inline-reads.Learnt, ahead-reads.Asked, ahead-reads.Learnt, below 2 approx-stretch-layout-kinds.ps μ-approx-stretch-layout approx-stretch-layout.Pre t, approx-stretch-layout.Post, behind-reads.Asked, behind-reads.Learnt, told-reads.Asked, told-reads.Learnt)
     (at 2 approx-layout-kinds.ps μ-approx-layout approx-layout.Pre t) approx-layout.Post
     (λ s bits₀ from end inline-max block-max depth layout₀ at₀ bits layout at. NodesAt depth inline-max block-max from s end bits₀ at (shape layout) bits)
-    (λ s bits₀ from end inline-max block-max depth layout₀ at₀ bits layout at. end _ at)
+    (λ s bits₀ from end inline-max block-max depth layout₀ at₀ bits layout at. end - at)
     (λ c κs. search needs)
     (λ c. let b = c.before.before in nodes_start b.requires.1.0 b.requires.1.1 c.inline.ensures)
     (λ c κs. (c.loop-test.true, c.before.loop.invariant.part))
@@ -114,7 +114,7 @@ pub +approx-flex-layout-approx-fragments-layout-approx-layout-approx-stretch-lay
     (field-end-in-reads.Asked, field-end-in-reads.Learnt, is-flexible-reads.Asked, is-flexible-reads.Learnt, below 2 approx-flex-layout-kinds.ps μ-approx-flex-layout approx-flex-layout.Pre t, approx-flex-layout.Post, told-reads.Asked, told-reads.Learnt)
     (at 2 approx-stretch-layout-kinds.ps μ-approx-stretch-layout approx-stretch-layout.Pre t) approx-stretch-layout.Post
     (λ s bits₀ start bound end inline-max block-max so_far depth layout₀ node₀ bits layout node. BlocksAt depth inline-max block-max start bound (shape so_far) s end bits₀ node (shape layout) bits)
-    (λ s bits₀ start bound end inline-max block-max so_far depth layout₀ node₀ bits layout node. end _ node)
+    (λ s bits₀ start bound end inline-max block-max so_far depth layout₀ node₀ bits layout node. end - node)
     (λ c. let b = c.before in blocks_start b.requires.1.0 b.requires.1.1.0 b.requires.1.1.1.0 b.requires.1.1.1.1)
     (λ c κs. let I = c.before.loop.invariant in (blocks_inside I c.loop-test.true, I.part.ends))
     (λ c. let I = c.before.before.before.loop.invariant in let h = blocks_inside I c.before.before.loop-test.true in omega (arith, h, I.part.ends))

@@ -8,7 +8,7 @@ abbrev invariant-loop : tie.invariant-loop
 invariant-loop s₀ bits n₀ i₀ s n i = InWords bits s₀ i s n
 
 abbrev decreases-loop : tie.decreases-loop
-decreases-loop s₀ bits n₀ i₀ s n i = length s₀ _ i * 64
+decreases-loop s₀ bits n₀ i₀ s n i = length s₀ - i * 64
 
 pub show-all-spec : {M : Type 1} → statement M
 show-all-spec = tie.close (tie.spec invariant-loop decreases-loop (λ c. let b : tie.Start invariant-loop decreases-loop = search in record { fits = omega (arith, b.pre.0) })

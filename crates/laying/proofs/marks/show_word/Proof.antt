@@ -6,7 +6,7 @@ use Rattle.laying.proofs.marks.show_word.Tie as tie
 
 pub show-word-spec : {M : Type 1} → statement M
 show-word-spec = tie.close (tie.spec (λ s₀ from word count n₀ rest₀ at₀ s n rest at. InWord from word count s₀ rest at s n)
-    (λ s₀ from word count n₀ rest₀ at₀ s n rest at. from + 65 _ at)
+    (λ s₀ from word count n₀ rest₀ at₀ s n rest at. from + 65 - at)
     (λ c. word_starts _ _ _ _ c.before.requires.0) (λ c. c.before.before.loop.invariant.long)
     (λ c. let I = c.before.before.loop.invariant in (omega (arith, I.few, I.ends), word_past I c.if1.true))
     (λ c. let I = c.before.before.before.loop.invariant in record { fits = omega (arith, I.ends, c.before.before.before.before.before.requires.1) })

@@ -10,7 +10,7 @@ use Rattle.laying.proofs.stretch.ahead.Tie as tie
 
 pub ahead-spec : {M : Type 1} → statement M
 ahead-spec = tie.close (tie.spec (λ s from end so_far layout₀ start₀ bound₀ at₀ layout start bound at. Along s end from (shape so_far) at (shape layout) start bound)
-    (λ s from end so_far layout₀ start₀ bound₀ at₀ layout start bound at. end _ at)
+    (λ s from end so_far layout₀ start₀ bound₀ at₀ layout start bound at. end - at)
     (λ c. along_starts c.before.requires.0 c.before.requires.1)
     (λ c κs. let P = c.before.loop.invariant.looked.part in (P.rising, P.ends)) (λ c. search needs)
     (λ c κs. search needs)

@@ -11,7 +11,7 @@ abbrev invariant-loop : tie.invariant-loop
 invariant-loop file place at₀ at = Seeking file place at
 
 abbrev decreases-loop : tie.decreases-loop
-decreases-loop file place at₀ at = length file _ at
+decreases-loop file place at₀ at = length file - at
 
 pub find-text-spec : {M : Type 1} → statement M
 find-text-spec =

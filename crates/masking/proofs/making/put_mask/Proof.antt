@@ -10,7 +10,7 @@ abbrev invariant-loop : tie.invariant-loop
 invariant-loop page₀ file at₀ page at = Going file page₀ page at
 
 abbrev decreases-loop : tie.decreases-loop
-decreases-loop page₀ file at₀ page at = length file _ at
+decreases-loop page₀ file at₀ page at = length file - at
 
 pub put-mask-spec : {M : Type 1} → statement M
 put-mask-spec =

@@ -8,7 +8,7 @@ abbrev invariant-loop : tie.invariant-loop
 invariant-loop to₀ s i₀ to i = Veiled s to i
 
 abbrev decreases-loop : tie.decreases-loop
-decreases-loop to₀ s i₀ to i = length s _ i
+decreases-loop to₀ s i₀ to i = length s - i
 
 pub veil-spec : {M : Type 1} → statement M
 veil-spec =

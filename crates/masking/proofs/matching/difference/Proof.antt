@@ -9,7 +9,7 @@ abbrev invariant-loop : tie.invariant-loop
 invariant-loop o m n at₀ at = Ahead o m at
 
 abbrev decreases-loop : tie.decreases-loop
-decreases-loop o m n at₀ at = n _ at
+decreases-loop o m n at₀ at = n - at
 
 pub difference-spec : {M : Type 1} → statement M
 difference-spec =

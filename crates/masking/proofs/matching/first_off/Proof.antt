@@ -8,7 +8,7 @@ abbrev invariant-loop : tie.invariant-loop
 invariant-loop o m from to text i₀ i = Same o m text from to i
 
 abbrev decreases-loop : tie.decreases-loop
-decreases-loop o m from to text i₀ i = to _ i
+decreases-loop o m from to text i₀ i = to - i
 
 pub first-off-spec : {M : Type 1} → statement M
 first-off-spec =

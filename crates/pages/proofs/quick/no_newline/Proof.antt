@@ -5,7 +5,7 @@ use Rattle.pages.proofs.quick.no_newline.Statement.{statement}
 use Rattle.pages.proofs.quick.no_newline.Tie as tie
 
 pub no-newline-spec : {M : Type 1} → statement M
-no-newline-spec = tie.close (tie.spec (λ s from found₀ k₀ found k. Looked s from k found) (λ s from found₀ k₀ found k. 8 _ k)
+no-newline-spec = tie.close (tie.spec (λ s from found₀ k₀ found k. Looked s from k found) (λ s from found₀ k₀ found k. 8 - k)
     (λ c. none_looked _ _) (λ c. search needs) (λ c. search needs) (λ c. search needs) (λ c. search needs)
     (λ c. let turn = c.before.before in
     ⊎_elim (λ h. one_found turn.before.loop.invariant (omega arith) h.1)

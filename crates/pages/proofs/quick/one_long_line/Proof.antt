@@ -9,7 +9,7 @@ abbrev invariant-loop : tie.invariant-loop
 invariant-loop s from to at₀ at = (from ≤ at) × (at ≤ to) × NoNewline s from at
 
 abbrev decreases-loop : tie.decreases-loop
-decreases-loop s from to at₀ at = to _ at
+decreases-loop s from to at₀ at = to - at
 
 pub one-long-line-spec : {M : Type 1} → statement M
 one-long-line-spec = tie.close (tie.spec invariant-loop decreases-loop (λ c. search needs) (λ c e. absurd (false≢true e)) (λ c. (omega arith, omega arith, no_windows)) (λ c. search needs) (λ c κs. search needs) (λ c e. absurd (false≢true e)) (λ c. search needs) (λ c. search needs)

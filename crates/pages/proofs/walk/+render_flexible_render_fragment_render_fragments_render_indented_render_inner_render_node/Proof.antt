@@ -81,7 +81,7 @@ pub +render-flexible-render-fragment-render-fragments-render-indented-render-inn
     (field-end-reads.Asked, field-end-reads.Learnt, below 3 render-node-kinds.ps μ-render-node render-node.Pre t, render-node.Post)
     (at 3 render-fragment-kinds.ps μ-render-fragment render-fragment.Pre t) render-fragment.Post
     (λ s from page₀ directly-in-block left marks base p₀ at₀ page p at. Going (node_in (marked marks) left directly-in-block) base at₀ s p₀ page₀ at p page)
-    (λ s from page₀ directly-in-block left marks base p₀ at₀ page p at. length s _ at)
+    (λ s from page₀ directly-in-block left marks base p₀ at₀ page p at. length s - at)
     (λ c. going_starts) (λ c κs. search needs)
     (λ c κs. let b = c.before.before.before.before.before.before.before.requires in (omega (arith, b.0), (omega (arith, c.before.before.before.loop.invariant.rendered.indent_kept, b.1.0), end_rises c.before.field-end.ensures c.before.before.loop-test.true, end_within c.before.field-end.ensures c.before.before.loop-test.true, b.1.1)))
     (λ c. search end_less)
@@ -92,7 +92,7 @@ pub +render-flexible-render-fragment-render-fragments-render-indented-render-inn
     (field-end-reads.Asked, field-end-reads.Learnt, below 3 render-inner-kinds.ps μ-render-inner render-inner.Pre t, render-inner.Post, end-fragment-reads.Asked, end-fragment-reads.Learnt)
     (at 3 render-fragments-kinds.ps μ-render-fragments render-fragments.Pre t) render-fragments.Post
     (λ s page₀ directly-in-block left marks base p₀ at₀ page p at. Going (fragment_ops marks left directly-in-block) base 3 s p₀ page₀ at p page)
-    (λ s page₀ directly-in-block left marks base p₀ at₀ page p at. length s _ at)
+    (λ s page₀ directly-in-block left marks base p₀ at₀ page p at. length s - at)
     (λ c. going_starts) (λ c κs. search needs) (λ c. search end_rises) (λ c. search end_rises) (λ c. search end_within)
     (λ c. let b = c.before.before.before.before.before.before.before.before.requires in record { fits = omega (arith, b.1.1, c.before.before.before.loop-test.true) })
     (λ c κs. let b = c.before.before.before.before.before.before.before.before.requires in let e = c.before.before.field-end.ensures in let l = c.before.before.before.loop-test.true in (omega (arith, b.0), (omega (arith, c.before.before.before.before.loop.invariant.rendered.indent_kept, b.1.0), part_within _ _ _ _ (end_rises e l) (end_within e l) b.1.1)))

@@ -10,7 +10,7 @@ abbrev invariant-loop : tie.invariant-loop
 invariant-loop v end page₀ at₀ p₀ page at p = LinesDone v at₀ p₀ page₀ at p page
 
 abbrev decreases-loop : tie.decreases-loop
-decreases-loop v end page₀ at₀ p₀ page at p = length v _ at
+decreases-loop v end page₀ at₀ p₀ page at p = length v - at
 
 returns : tie.Need-returns invariant-loop decreases-loop
 returns c = lines_end c.before.loop.invariant c.loop-test.false

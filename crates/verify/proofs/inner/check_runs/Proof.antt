@@ -18,7 +18,7 @@ invariant-loop s from end place strict at₀ at =
     × ((d before : ℕ) (ts : List ℕ) → Named before ts → Come strict Named in_anchor d s place end at (RestSaid strict in_anchor ts d before place from (slice from end s)))
 
 abbrev decreases-loop : tie.decreases-loop
-decreases-loop s from end place strict at₀ at = end _ at
+decreases-loop s from end place strict at₀ at = end - at
 
 pub check-runs-spec : {M : Type 1} → statement M
 check-runs-spec = tie.close (tie.spec invariant-loop decreases-loop

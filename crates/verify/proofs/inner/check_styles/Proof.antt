@@ -17,7 +17,7 @@ abbrev invariant-loop : tie.invariant-loop
 invariant-loop s from end place at₀ seen₀ at seen = Between s place at end × ((strict : Bool) (d : ℕ) → Come strict (SeenBy seen) in_styles d s place end at (RestSaid strict in_styles [] d 0 place from (slice from end s)))
 
 abbrev decreases-loop : tie.decreases-loop
-decreases-loop s from end place at₀ seen₀ at seen = end _ at
+decreases-loop s from end place at₀ seen₀ at seen = end - at
 
 pub check-styles-spec : {M : Type 1} → statement M
 check-styles-spec = tie.close (tie.spec invariant-loop decreases-loop (λ c κs. search needs)

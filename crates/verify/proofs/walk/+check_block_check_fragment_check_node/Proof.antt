@@ -31,20 +31,20 @@ use Rattle.verify.proofs.walk.+check_block_check_fragment_check_node.{statement}
 use Rattle.verify.proofs.walk.+check_block_check_fragment_check_node.Tie.{close}
 
 abbrev μ-block : Measures 1 check-block-kinds.ps ℕ
-μ-block κs a = 2 * (a.1.1.0 _ a.1.0) + 1
+μ-block κs a = 2 * (a.1.1.0 - a.1.0) + 1
 
 abbrev μ-fragment : Measures 1 check-fragment-kinds.ps ℕ
-μ-fragment κs a = 2 * (a.1.1.0 _ a.1.0) + 1
+μ-fragment κs a = 2 * (a.1.1.0 - a.1.0) + 1
 
 abbrev μ-node : Measures 1 check-node-kinds.ps ℕ
-μ-node κs a = 2 * (a.1.1.0 _ a.1.0)
+μ-node κs a = 2 * (a.1.1.0 - a.1.0)
 
 pub +check-block-check-fragment-check-node-spec : {M : Type 1} → statement M
 +check-block-check-fragment-check-node-spec =
     close μ-block μ-fragment μ-node
     (λ t. check-block-lts.spec (field_in.Asked, field_in.Learnt, no-field-reads.Asked, no-field-reads.Learnt, fault-reads.Asked, fault-reads.Learnt, below 1 check-fragment-kinds.ps μ-fragment check-fragment.Pre t, check-fragment.Post)
     (at 1 check-block-kinds.ps μ-block check-block.Pre t) check-block.Post
-    (λ s from end depth strict at₀ at. (from ≤ at) × Come strict Any in_block depth s 0 end at (RestSaid strict in_block [] depth 0 0 from (slice from end s))) (λ s from end depth strict at₀ at. end _ at)
+    (λ s from end depth strict at₀ at. (from ≤ at) × Come strict Any in_block depth s 0 end at (RestSaid strict in_block [] depth 0 0 from (slice from end s))) (λ s from end depth strict at₀ at. end - at)
     (λ c. (omega arith, come_first in_block _ 0 [] c.before.requires.1 tt))
     (λ c κs. let P = c.before.loop.invariant.1.part in (P.rising, P.ends)) (λ c. search needs)
     (λ c. omega (arith, c.before.before.before.before.loop.invariant.1.part.ends))
@@ -66,7 +66,7 @@ pub +check-block-check-fragment-check-node-spec : {M : Type 1} → statement M
     (λ t. check-fragment-lts.spec
     (field_in.Asked, field_in.Learnt, in-fragment-reads.Asked, in-fragment-reads.Learnt, no-field-reads.Asked, no-field-reads.Learnt, fault-reads.Asked, fault-reads.Learnt, below 1 check-node-kinds.ps μ-node check-node.Pre t, check-node.Post)
     (at 1 check-fragment-kinds.ps μ-fragment check-fragment.Pre t) check-fragment.Post
-    (λ s from end depth strict at₀ at. (from ≤ at) × Come strict Any in_fragment depth s 0 end at (RestSaid strict in_fragment [] depth 0 0 from (slice from end s))) (λ s from end depth strict at₀ at. end _ at)
+    (λ s from end depth strict at₀ at. (from ≤ at) × Come strict Any in_fragment depth s 0 end at (RestSaid strict in_fragment [] depth 0 0 from (slice from end s))) (λ s from end depth strict at₀ at. end - at)
     (λ c. (omega arith, come_first in_fragment _ 0 [] c.before.requires.1 tt))
     (λ c κs. let P = c.before.loop.invariant.1.part in (P.rising, P.ends)) (λ c. search needs)
     (λ c. omega (arith, c.before.before.before.before.loop.invariant.1.part.ends)) (λ c κs. search needs)
