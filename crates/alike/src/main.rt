@@ -1,6 +1,9 @@
 // Runs a file and two masks of it through all entries, and says of each whether the answers agree and the bytes differ only where bytes of
 // texts are copied. Input: two bytes of width, then the file, its mask by one letter and its mask by another, all of one length. What is copied
 // shows where the two masks' pages differ.
+
+#![tactic(auto)]
+
 use fields::wide;
 use hazomeny::{
     hazomeny_check, hazomeny_html_body, hazomeny_html_document, hazomeny_layout, hazomeny_plain,

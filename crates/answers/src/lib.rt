@@ -1,4 +1,7 @@
 // An answer in document 01's words: a refusal's number and place, and the one number that says an answer to a caller in C.
+
+#![tactic(auto)]
+
 ghost use Rattle.std.specs.Prelude.{◌≡◌, ℕ, ◌<◌, ◌^◌};
 ghost use Rattle.rules.specs.Result.{refused, refusal, said};
 ghost use Rattle.rules.specs.Answers.{coded};

@@ -1,4 +1,7 @@
 // Numbers as texts: decimal digits, a sign, a point, hexadecimal digits.
+
+#![tactic(auto)]
+
 ghost use Rattle.std.specs.Prelude.{◌≡◌, ◌-◌, ◌/◌, ◌%◌, ◌^◌, ◌≤◌, ◌<◌, nat_abs, length, []};
 ghost use Rattle.rules.specs.Html.{separated};
 ghost use Rattle.rules.specs.Digits.{digit, digits, hex, hex_digit, signed_digits, last_digits, sign, decimal_text};

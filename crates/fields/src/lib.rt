@@ -1,4 +1,7 @@
 // One house field at a place of a slice: a tag byte, a two-byte length, high byte first, then the value.
+
+#![tactic(auto)]
+
 ghost use Rattle.std.specs.Prelude.{◌≡◌, ◌<◌, ◌≤◌, length, take};
 ghost use Rattle.fields.specs.FieldAt.{field_at};
 

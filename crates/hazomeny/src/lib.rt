@@ -1,5 +1,8 @@
 // The public entries: each is total and terminates, has no preconditions, and answers as document 01 says. The C names take slices and numbers
 // and answer in one number (`coded` of rules). The writer's entries in Rattle are `scribe::held`; here is its C name.
+
+#![tactic(auto)]
+
 ghost use Rattle.std.specs.Prelude.{◌≡◌};
 ghost use Rattle.rules.specs.Result.{said};
 ghost use Rattle.scribe.specs.InC.{write_in_c, Leaves};

@@ -1,4 +1,7 @@
 // The HTML program: the document of the file on standard input, at the width before it.
+
+#![tactic(auto)]
+
 use libc::STDIN_FILENO;
 use printing::{INPUT, Wanted, print_asked};
 

@@ -1,4 +1,7 @@
 // The strict HTML program: the strict document of the file on standard input, at the width before it.
+
+#![tactic(auto)]
+
 use libc::STDIN_FILENO;
 use printing::{INPUT, Wanted, print_asked};
 

@@ -1,4 +1,7 @@
 // The first walk over a file that is only read: check and layout at once. Where a block's tag would become a 3, a bit is set in an array beside the file.
+
+#![tactic(auto)]
+
 pub mod answer;
 pub mod flex;
 pub mod leaves;

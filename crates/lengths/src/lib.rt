@@ -1,1 +1,3 @@
 // How long pages can be in HTML: theorems about the rules, with no code.
+
+#![tactic(auto)]

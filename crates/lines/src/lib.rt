@@ -1,5 +1,8 @@
 // The line machine: one line operation at a time, its state by value. It says what is written before an operation's own item, and writes
 // nothing itself. A text, a style's fields and an anchor's name stand beside the operation.
+
+#![tactic(auto)]
+
 ghost use Rattle.std.specs.Prelude.{◌≡◌, [], ℕ, ◌<◌, ◌^◌};
 ghost use Rattle.std.proofs.Math.Option.{some};
 ghost use Rattle.rules.specs.Lines as rules;

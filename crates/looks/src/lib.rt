@@ -1,5 +1,8 @@
 // A quick look at a short text: whether all its bytes are ASCII and none is one that is asked for, or the second alone. Eight bytes are looked at together, without an exit,
 // which the compiler makes one load and one comparison. `false` says nothing: the caller then looks byte by byte.
+
+#![tactic(auto)]
+
 ghost use Rattle.std.specs.Prelude.{◌+◌, ◌≤◌, length};
 ghost use Rattle.looks.specs.Calm.{Fine, Calm, Lacks, Says};
 

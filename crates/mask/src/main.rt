@@ -1,4 +1,7 @@
 // The mask program: the mask of the file on standard input.
+
+#![tactic(auto)]
+
 use libc::STDIN_FILENO;
 use printing::{FILE, print_mask};
 

@@ -1,5 +1,7 @@
 // A writer's step on a lent buffer: its types. What a step leaves, for every state, is specs/; that this is what was asked for, proofs/. The code is `scribe`.
 
+#![tactic(auto)]
+
 // The steps. Those that put a text, a name or a style get it beside.
 #[derive(Drop)]
 pub enum Op {

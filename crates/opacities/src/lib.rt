@@ -1,4 +1,7 @@
 // The shortest decimal of an opacity, from its float's bits, in 64-bit arithmetic.
+
+#![tactic(auto)]
+
 ghost use Rattle.std.specs.Prelude.{◌≡◌, true, false};
 ghost use Rattle.std.specs.Float.{binary32};
 ghost use Rattle.rules.specs.Search as rules;

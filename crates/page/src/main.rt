@@ -1,4 +1,7 @@
 // The page program: the plain page of the file on standard input, at the width before it.
+
+#![tactic(auto)]
+
 use libc::STDIN_FILENO;
 use printing::{INPUT, print_plain};
 

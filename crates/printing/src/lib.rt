@@ -1,5 +1,8 @@
 // Printing a page that is asked for in some input: two bytes of width, high byte first, and a file. The file's page at the width is printed and nothing
 // more; a refusal prints `refused N at P` and a newline.
+
+#![tactic(auto)]
+
 ghost use Rattle.std.specs.Prelude.{◌≡◌};
 ghost use Rattle.printing.specs.Shown.{Shown};
 ghost use Rattle.printing.specs.Asked.{with_page, with_mask, laid_at, asked, plainly_asked};

@@ -1,4 +1,7 @@
 // Printing a file at a width in one call. The first walk checks the file and lays it out beside it, and the page is written as the marks show it; the file is only read.
+
+#![tactic(auto)]
+
 ghost use Rattle.std.specs.Prelude.{◌≡◌};
 ghost use Rattle.rules.specs.Result.{said};
 ghost use Rattle.rules.specs.Prints.{print_outcome};

@@ -1,4 +1,7 @@
 // Replays the recorded requests: reads a batch of them on standard input, does each, and prints its answer and all bytes that it was lent, a line each.
+
+#![tactic(auto)]
+
 ghost use Rattle.std.specs.Prelude.{◌<◌, ◌≤◌, length};
 
 use hazomeny::{

@@ -1,5 +1,8 @@
 // A batch of recorded requests: where the file of the request at a place stands, and the page that is lent (tests/recorded/README.md has
 // the format).
+
+#![tactic(auto)]
+
 ghost use Rattle.std.specs.Prelude.{◌≡◌, ◌+◌, ◌≤◌, length, replicate};
 ghost use Rattle.requests.specs.Requests.{width_at, room_at, long_at, request_at};
 

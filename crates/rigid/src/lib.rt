@@ -1,4 +1,7 @@
 // The rigid layout of a node: what it takes up whatever the width is.
+
+#![tactic(auto)]
+
 ghost use Rattle.std.specs.Prelude.{◌≡◌, ◌≤◌, length, take};
 ghost use Rattle.shapes.specs.Shapes.{shape};
 ghost use Rattle.rules.specs.Layout.{only_if_block, byte_width, effective};

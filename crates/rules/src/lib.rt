@@ -1,6 +1,8 @@
 // The rules of document 01. This crate is its specs/ (the rules) and its proofs/ (theorems about them); its code is the limits, which
 // specs/Limits has by the same names, and the two types that every public answer has.
 
+#![tactic(auto)]
+
 // The most bytes of a file.
 pub const MOST_BYTES: usize = 60000;
 

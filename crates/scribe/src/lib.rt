@@ -1,4 +1,7 @@
 // The writer of fragment files: one step at a time, over the caller's buffer.
+
+#![tactic(auto)]
+
 pub mod checks;
 pub mod held;
 pub mod numbers;

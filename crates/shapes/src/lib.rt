@@ -1,4 +1,7 @@
 // Widths in tenths of a column, which stop at 65,535, and what a laid out piece takes up: part of a line, or several lines.
+
+#![tactic(auto)]
+
 ghost use Rattle.std.specs.Prelude.{◌≡◌, ◌+◌, ◌-◌};
 ghost use Rattle.rules.specs.Bytes.{cap};
 ghost use Rattle.rules.specs.Layout.{Inline, Block, ◌⊕◌};

@@ -1,4 +1,7 @@
 // Em sizes: the double 1.0 + size × 0.1 as a decimal, for the sizes -128 to 117.
+
+#![tactic(auto)]
+
 ghost use Rattle.std.specs.Prelude.{◌≡◌, pos, ◌≤ℤ◌};
 ghost use Rattle.rules.specs.Sizes as rules;
 ghost use Rattle.sizes.specs.Table.{place_of, Right};

@@ -1,4 +1,7 @@
 // Telling an answer on standard output, in document 01's words.
+
+#![tactic(auto)]
+
 use answers::told;
 use libc::STDOUT_FILENO;
 use rules::{Answer, Refusal};

@@ -1,4 +1,7 @@
 // The bytes of a text: where its first line ends.
+
+#![tactic(auto)]
+
 ghost use Rattle.std.specs.Prelude.{◌≡◌};
 ghost use Rattle.rules.specs.Bytes.{has};
 ghost use Rattle.texts.specs.FirstLine.{first_long, Passed};

@@ -1,4 +1,7 @@
 // UTF-8 by the grammar of RFC 3629, section 4, over a slice, each byte read once; and whether a slice has a byte.
+
+#![tactic(auto)]
+
 ghost use Rattle.std.specs.Prelude.{◌≡◌, length};
 ghost use Rattle.rules.specs.Bytes.{has};
 ghost use Rattle.rules.specs.Utf8.{following};

@@ -1,4 +1,7 @@
 // The file check: the walk over a file's fields from the front, and the first fault with its place.
+
+#![tactic(auto)]
+
 pub mod content;
 pub mod front;
 pub mod glance;

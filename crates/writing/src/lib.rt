@@ -1,5 +1,8 @@
 // Writing to a lent page as far as it fits: a byte past the page's end is dropped, and the position moves on all the same, so that the
 // last position says how many bytes the whole text needs. Positions saturate at usize::MAX, which no page reaches.
+
+#![tactic(auto)]
+
 ghost use Rattle.std.specs.Prelude.{◌≡◌, [], ◌∷◌, length, replicate};
 ghost use Rattle.writing.specs.Written.{Written, moved};
 
