@@ -1,6 +1,6 @@
 -- Layout with a stretch ahead (`Ahead`), which the code follows, is the layout of `Layout`, on every fragment.
-use Rattle.rules.proofs.Basics.{◌≡◌, refl, ap, ap₂, ◌∙◌, List, [], ◌∷◌, ◌++◌, append-nil, Option, none, Bool, true, false, ℕ, ◌+◌, ◌*◌, ◌≤◌, min, arith, leb, length, leb-true, leb-false}
-use Rattle.rules.specs.Limits.{most_tenths}
+use Rattle.rules.proofs.Basics.{max, ◌-◌, ◌≡◌, refl, ap, ap₂, ◌∙◌, List, [], ◌∷◌, ◌++◌, append-nil, Option, none, Bool, true, false, ℕ, ◌+◌, ◌*◌, ◌≤◌, min, arith, leb, length, leb-true, leb-false}
+use Rattle.rules.specs.Limits.{indentation, most_tenths}
 use Rattle.rules.specs.Bytes.{if◌then◌else◌, cap}
 use Rattle.rules.specs.Walk.{Fields}
 use Rattle.rules.specs.Tree.{Run, Leaf, text, anchor, space, force, if_block, Kind, indented, flexible, Frag, stop, leaf, block, Frags, none_left, frag}
@@ -107,7 +107,7 @@ module _ {X : Type 0} (newline : X → Bool) where
   rigid_runs_settled : (so : Shape) (rs : List (Run X)) → Settled so → Settled (rigid_runs newline so rs)
   unfolding rigid_runs
   rigid_runs_settled so [] S = S
-  rigid_runs_settled so (r ∷ rs) S = rigid_runs_settled _ rs (settled_append so _ (rigid_text_settled r.style r.chars))
+  rigid_runs_settled so (r ∷ rs) S = rigid_runs_settled (so ⊕ rigid_text newline r.style r.chars) rs (settled_append so _ (rigid_text_settled r.style r.chars))
 
   rigid_settled : (n : Leaf X) → Settled (rigid newline n)
   unfolding rigid ◌⊕◌ cap
@@ -120,13 +120,13 @@ module _ {X : Type 0} (newline : X → Bool) where
   ahead_settled : (so : Shape) (t : Frag X) → Settled so → Settled (ahead newline so t)
   unfolding ahead stretch
   ahead_settled so stop S = S
-  ahead_settled so (leaf n r) S = go (rigid newline n) (ahead_settled _ r (settled_append so _ (rigid_settled n)))
+  ahead_settled so (leaf n r) S = go (rigid newline n) (ahead_settled (so ⊕ rigid newline n) r (settled_append so _ (rigid_settled n)))
     where
       go : (own : Shape) {further : Shape} → Settled further → Settled (stretch so own further)
       go (Inline w e) F = F
       go (Block pre post) F = settled_inline so pre 0
   ahead_settled so (block indented fs r) S = settled_inline so 0 0
-  ahead_settled so (block flexible fs r) S = ahead_settled _ r (settled_inline so 0 0)
+  ahead_settled so (block flexible fs r) S = ahead_settled (so ⊕ Inline 0 0) r (settled_inline so 0 0)
 
   past_settled : (own so : Shape) (r : Frag X) → Settled own → Settled so → Settled (past newline own so r)
   unfolding past
@@ -138,13 +138,15 @@ module _ {X : Type 0} (newline : X → Bool) where
 
     lay_settled : (t : Frag X) (i b : ℕ) (so : Shape) → Settled so → Settled (lay newline t i b so).1
     lay_settled stop i b so S = S
-    lay_settled (leaf n r) i b so S = lay_settled r i b _ (past_settled _ so r (rigid_settled n) S)
-    lay_settled (block indented fs r) i b so S = lay_settled r i b _ (past_settled (Block 0 0) _ r refl (settled_append so (Block 0 0) refl))
-    lay_settled (block flexible fs r) i b so S = lay_settled r i b _ (settled_append so _ (chosen_settled _ _ (lay_all_settled fs _ _ (Inline 0 0) refl)))
+    lay_settled (leaf n r) i b so S = lay_settled r i b (past newline (rigid newline n) so r) (past_settled _ so r (rigid_settled n) S)
+    lay_settled (block indented fs r) i b so S = lay_settled r i b (past newline (Block 0 0) (so ⊕ Block 0 0) r) (past_settled (Block 0 0) _ r refl (settled_append so (Block 0 0) refl))
+    lay_settled (block flexible fs r) i b so S =
+        let c : Kind × Shape = chosen (room i b so) (lay_all newline fs (max (room i b so) (b - indentation)) (b - indentation) (Inline 0 0)).1 in
+        lay_settled r i b (so ⊕ c.1) (settled_append so _ (chosen_settled _ _ (lay_all_settled fs _ _ (Inline 0 0) refl)))
 
     lay_all_settled : (fs : Frags X) (i b : ℕ) (so : Shape) → Settled so → Settled (lay_all newline fs i b so).1
     lay_all_settled none_left i b so S = S
-    lay_all_settled (frag f fs) i b so S = lay_all_settled fs i b _ (settled_append so _ (lay_settled f i b _ (ahead_settled (Inline 0 0) f refl)))
+    lay_all_settled (frag f fs) i b so S = lay_all_settled fs i b (so ⊕ (lay newline f i b (ahead newline (Inline 0 0) f)).1) (settled_append so _ (lay_settled f i b _ (ahead_settled (Inline 0 0) f refl)))
 
   -- ---- a node
 
@@ -225,13 +227,13 @@ module _ {X : Type 0} (newline : X → Bool) where
         let own : Shape = rigid newline n in
         let ns : List (Node X) × Shape = in_turn i b s.waiting (ahead newline s.shape (leaf n r)) in
         let same : ns.1 ⊕ Inline 0 0 ≡ ns.1 = in_turn_settled i b s.waiting _ W (ahead_settled s.shape (leaf n r) S) in
-        fragment_ahead r i b _ (node_settled i b own (leaf_flexible n) s (rigid_settled n)) (node_steady i b own (leaf_flexible n) s W (leaf_steady n))
+        fragment_ahead r i b (and_node i b own (leaf_flexible n) s) (node_settled i b own (leaf_flexible n) s (rigid_settled n)) (node_steady i b own (leaf_flexible n) s W (leaf_steady n))
         ∙ node_turn i b own (leaf_flexible n) s r
         ∙ ap (λ (so : Shape). let r' : Frag X × Shape = lay newline r i b (past newline own so r) in (before (s.done ++ ns.0) (before ((leaf_flexible n i b).0 ∷ []) r'.0), r'.1)) same
     fragment_ahead (block k fs r) i b s S W =
         let f : Flexible X = block_flexible k (λ i b. lay_all newline fs i b (Inline 0 0)) in
         (λ j. fragment_layout newline r i b (and_node i b (rigid_block k) (block_flexible k (λ i b. fragments_ahead fs i b (Inline 0 0) j)) s))
-        ∙ fragment_ahead r i b _ (node_settled i b _ f s (block_settled k)) (node_steady i b (rigid_block k) f s W (block_steady k fs))
+        ∙ fragment_ahead r i b (and_node i b (rigid_block k) f s) (node_settled i b _ f s (block_settled k)) (node_steady i b (rigid_block k) f s W (block_steady k fs))
         ∙ node_turn i b (rigid_block k) f s r
         ∙ block_turn k fs r i b s
 
