@@ -1,0 +1,16 @@
+-- `texts::skip_windows` meets its contract. The loop's invariant: the windows passed have no newline.
+use Rattle.rules.proofs.Basics.{◌-◌}
+use Rattle.texts.proofs.Chunks.{chunk_passed}
+use Rattle.texts.proofs.skip_windows.Goals as goal
+
+pub loop-at-init : goal.loop-at-init
+loop-at-init c = c.requires
+
+pub returns-then-has_newline : goal.returns-then-has_newline
+returns-then-has_newline c = c.loop-at.invariant
+
+pub loop-at-preserved : goal.loop-at-preserved
+loop-at-preserved c = chunk_passed c.loop-at.invariant 8 c.loop-at-test.true c.has_newline.ensures c.if-has_newline.false
+
+pub returns : goal.returns
+returns c = c.loop-at.invariant
