@@ -1,0 +1,6 @@
+-- `digits::hex_pair` meets its contract.
+use Rattle.rules.specs.Digits.{hex}
+use Rattle.digits.proofs.hex_pair.Goals as goal
+
+pub returns : goal.returns
+returns c = unfold hex in rw (c.hex_digit-high.ensures, c.hex_digit-low.ensures)

@@ -1,0 +1,15 @@
+-- `styles::opacity_allowed` meets its contract: each answer is what the rules' test says by the tests before it.
+use borrow.Author.Tests.{eq-eqb, ne_eqb, le-leb, lt-leb}
+use Rattle.rules.specs.Walk.{right_opacity}
+use Rattle.styles.proofs.opacity_allowed.Goals as goal
+
+pub returns-then-bits-eq0 : goal.returns-then-bits-eq0
+returns-then-bits-eq0 c = unfold right_opacity in rw (eq-eqb _ 0 c.if-bits-eq0.true)
+
+pub returns-then-bits-lt981467136 : goal.returns-then-bits-lt981467136
+returns-then-bits-lt981467136 c =
+    unfold right_opacity in rw (ne_eqb _ 0 c.if-bits-eq0.false, lt-leb 0x3a80_0000 _ c.if-bits-lt981467136.true)
+
+pub returns : goal.returns
+returns c =
+    unfold right_opacity in rw (ne_eqb _ 0 c.if-bits-eq0.false, le-leb 0x3a80_0000 _ c.if-bits-lt981467136.false)
