@@ -1,0 +1,13 @@
+-- `sizes::em` meets its contract.
+use borrow.Author.Rules.{rules}
+use Rattle.rules.proofs.Open.{all_open}
+use Rattle.sizes.specs.Table.{place_of, decimal_at}
+use Rattle.sizes.proofs.Entries.{same, test, tested}
+use Rattle.sizes.proofs.Placing.{passed}
+use Rattle.sizes.proofs.em.Goals as goal
+
+
+-- the test is computed here, on the table as it stands in the code
+
+pub returns : goal.returns
+returns c = rw (passed c.ranges.size) at c.entry.ensures
