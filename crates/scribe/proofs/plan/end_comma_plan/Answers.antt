@@ -1,4 +1,5 @@
 -- `scribe::plan::end_comma_plan` meets its contract: by what is open.
+use Rattle.rules.proofs.Basics.{arith}
 use Rattle.moves.specs.Plans.{end_comma_plan}
 use Rattle.scribe.proofs.PlanLaws.{no_end_comma}
 use Rattle.scribe.proofs.plan.end_comma_plan.Goals as goal
@@ -10,4 +11,4 @@ pub returns-in-6 : goal.returns-in-6
 returns-in-6 c = unfold end_comma_plan in rw c.in-6.is c.shuts-in-6.ensures
 
 pub returns-in_default : goal.returns-in_default
-returns-in_default c = let r = c.in_default.in_default-own.rest in rw (no_end_comma _ r.0.1 r.1) c.puts.ensures
+returns-in_default c = rw (no_end_comma c.args.kind (omega arith) (omega arith)) c.puts.ensures

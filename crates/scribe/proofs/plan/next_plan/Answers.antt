@@ -1,4 +1,5 @@
 -- `scribe::plan::next_plan` meets its contract: by what is open.
+use Rattle.rules.proofs.Basics.{arith}
 use Rattle.moves.specs.Plans.{next_plan}
 use Rattle.scribe.proofs.PlanLaws.{no_next}
 use Rattle.scribe.proofs.plan.next_plan.Goals as goal
@@ -17,4 +18,4 @@ returns-in-6 c = unfold next_plan in rw c.in-6.is c.opens-in-6.ensures
 
 pub returns-in_default : goal.returns-in_default
 returns-in_default c =
-    let r = c.in_default.in_default-own.rest in rw (no_next _ _ r.0.0.0.1 r.0.0.1 r.0.1 r.1) c.puts.ensures
+    rw (no_next c.args.kind c.args.around (omega arith) (omega arith) (omega arith) (omega arith)) c.puts.ensures

@@ -69,3 +69,11 @@ returns-in-EndCommaJoin c = unfold plan in rw c.in-EndCommaJoin.is c.end_comma_p
 
 pub returns-in-Finish : goal.returns-in-Finish
 returns-in-Finish c = unfold plan in rw c.in-Finish.is c.puts-in-Finish.ensures
+
+pub returns-in-CloseBlock : goal.returns-in-CloseBlock
+returns-in-CloseBlock c =
+    unfold plan in rw c.in-CloseBlock.is (c.shuts-in-CloseBlock.ensures ∙ ap (λ (a : Bool). shuts a piece.Nothing 1 piece.Nothing) c.one_of-block.ensures)
+
+pub returns-in-OpenFragment : goal.returns-in-OpenFragment
+returns-in-OpenFragment c =
+    unfold plan in rw c.in-OpenFragment.is (c.opens-in-OpenFragment.ensures ∙ ap (λ (a : Bool). opens a piece.Nothing 0 (c.args.code % 32) piece.Nothing) c.one_of-block.ensures)

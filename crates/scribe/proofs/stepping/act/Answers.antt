@@ -15,3 +15,9 @@ pub returns : goal.returns
 returns c =
     let r = carried _ _ _ _ _ _ c.requires c.put_piece-a.ensures c.close_fields-t.ensures c.open_field-s.ensures c.put_piece-b.ensures c.went.ensures in
     (r, near _ _ _ _ _ _ c.requires c.put_piece-a.ensures c.close_fields-t.ensures c.open_field-s.ensures r c.went.ensures.1)
+
+pub close_fields-t-requires-clause-top_value : goal.close_fields-t-requires-clause-top_value
+close_fields-t-requires-clause-top_value c = sane₁ _ _ _ _ _ _ c.requires c.put_piece-a.ensures
+
+pub close_fields-t-requires-clause-closes_value : goal.close_fields-t-requires-clause-closes_value
+close_fields-t-requires-clause-closes_value c = closable₁ _ _ _ _ _ _ c.requires c.put_piece-a.ensures
