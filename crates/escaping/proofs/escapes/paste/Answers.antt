@@ -9,3 +9,12 @@ loop-k-init c = none_pasted _ _ _
 
 pub bounds-page-at : goal.bounds-page-at
 bounds-page-at c = omega (arith, kept c.loop-k.invariant.written)
+
+pub loop-k-preserved : goal.loop-k-preserved
+loop-k-preserved c = one_pasted c.loop-k.invariant (omega arith) c.well_formed.1.1.0.1.0.1 (omega arith)
+
+pub returns : goal.returns
+returns c = all_pasted c.loop-k.invariant (omega arith) c.well_formed.1.1.0.1.0.1
+
+pub shape_of-page : goal.shape_of-page
+shape_of-page c = kept (returns c)
