@@ -1,5 +1,5 @@
 -- `approx_flex_layout`, `approx_fragments_layout`, `approx_layout` and `approx_stretch_layout` meet their contracts.
-use Rattle.rules.proofs.Basics.{sym, arith, refl, ◌+◌, ◌-◌, ◌∙◌, rules}
+use Rattle.rules.proofs.Basics.{sym, arith, refl, ◌∙◌}
 use Rattle.verify.proofs.Parts.{part_anywhere}
 use Rattle.verify.proofs.RestLaws.{field_there, begins, rising, in_the_part, value_part}
 use Rattle.laying.proofs.LeafLaws.{other_four}

@@ -1,5 +1,5 @@
 -- `laying::marks::all_marks` meets its contract. The loop's invariant: no word so far is more.
-use Rattle.rules.proofs.Basics.{arith, ◌-◌}
+use Rattle.rules.proofs.Basics.{arith}
 use Rattle.laying.proofs.ShownLaws.{most_more}
 use Rattle.laying.proofs.marks.all_marks.Goals as goal
 

@@ -1,5 +1,5 @@
 -- `laying::marks::show_all` meets its contract: no mark, or word by word. The loop's invariant: `InWords`.
-use Rattle.rules.proofs.Basics.{refl, arith, ◌-◌}
+use Rattle.rules.proofs.Basics.{refl, arith}
 use Rattle.laying.proofs.ShownLaws.{words_start, words_turn, words_end, nothing_shown}
 use Rattle.laying.proofs.marks.show_all.Goals as goal
 

@@ -1,5 +1,5 @@
 -- `laying::marks::show_word` meets its contract. The loop's invariant: `InWord`.
-use Rattle.rules.proofs.Basics.{arith, ◌-◌}
+use Rattle.rules.proofs.Basics.{arith}
 use Rattle.laying.proofs.ShownLaws.{word_starts, word_turn, word_skip, word_ends, word_past}
 use Rattle.laying.proofs.marks.show_word.Goals as goal
 

@@ -1,5 +1,5 @@
 -- `laying::stretch::ahead` meets its contract. The loop's invariant: what is left of the stretch, for its layout and for its check.
-use Rattle.rules.proofs.Basics.{refl, sym, ◌∙◌, ◌-◌, arith, not-true, not-false, rules, ⊎_elim}
+use Rattle.rules.proofs.Basics.{refl, sym, ◌∙◌, arith, rules}
 use Rattle.shapes.proofs.Numbers.{line, lines}
 use Rattle.verify.proofs.RestLaws.{field_there, begins, rising, in_the_part, value_part}
 use Rattle.laying.proofs.Passing.{no_field_wrong, tag_wrong, leaf_wrong}
