@@ -13,4 +13,4 @@ approx_layout-requires c =
 
 pub returns : goal.returns
 returns c =
-    first_walk _ _ c.requires.0 c.requires.1.0 (every_byte c.args.file.now (λ i. omega (arith, c.shared_slice_known-1.given i))) c.requires.1.1 c.tenths-w.ensures c.approx_layout.ensures
+    first_walk _ _ c.requires.0 c.requires.1.0 (every_byte c.args.file.now (λ i. omega (arith, c.type_inv.file i))) c.requires.1.1 c.tenths-w.ensures c.approx_layout.ensures
