@@ -28,4 +28,4 @@ pub returns-in-7 : goal.returns-in-7
 returns-in-7 c = unfold leaf_in in rw c.in-7.is c.render_if_block.ensures
 
 pub returns-in_default : goal.returns-in_default
-returns-in_default c = let r = c.in_default.in_default-own.rest in no_leaf _ _ r.0.0.0.0.1 r.0.0.0.1 r.0.0.1 r.0.1 r.1
+returns-in_default c = no_leaf _ _ (omega arith) (omega arith) (omega arith) (omega arith) (omega arith)
