@@ -1,5 +1,5 @@
 -- `pages::leaves::render_runs` meets its contract: the loop's invariant is `Going`.
-use Rattle.rules.proofs.Basics.{◌-◌, arith}
+use Rattle.rules.proofs.Basics.{arith}
 use Rattle.fields.proofs.Spans.{end_rises, end_within, end_less}
 use Rattle.pages.specs.OpsIn.{runs_in}
 use Rattle.pens.proofs.Running.{kept}

@@ -1,6 +1,5 @@
 -- `pages::quick::no_newline` meets its contract: the loop's invariant is `Looked`.
-use Rattle.rules.proofs.Basics.{⊎_elim, ◌-◌, arith}
-use Rattle.pages.proofs.ShortTexts.{none_looked, one_found, none_found, looked_at}
+use Rattle.pages.proofs.ShortTexts.{none_looked, looked_at}
 use Rattle.pages.proofs.quick.no_newline.Goals as goal
 
 pub loop-k-init : goal.loop-k-init

@@ -1,5 +1,5 @@
 -- `pages::quick::one_long_line` meets its contract. The loop's invariant: the windows passed have no newline.
-use Rattle.rules.proofs.Basics.{refl, false≢true, ◌-◌, arith}
+use Rattle.rules.proofs.Basics.{refl, false≢true, arith}
 use Rattle.pages.proofs.ShortTexts.{a_line, no_windows, window_more}
 use Rattle.pages.proofs.quick.one_long_line.Goals as goal
 

@@ -9,7 +9,7 @@ returns-in_default c = page_refused _ _ _ _ c.in_default.is c.check_for-a.ensure
 
 pub render_shown-requires : goal.render_shown-requires
 render_shown-requires c =
-    accepted_shown c.args.kind _ (every_byte c.args.file.now (λ i. omega (arith, c.shared_slice_known-1.given i))) c.in-Done.is c.check_for-a.ensures
+    accepted_shown c.args.kind _ (every_byte c.args.file.now (λ i. omega (arith, c.type_inv.file i))) c.in-Done.is c.check_for-a.ensures
 
 pub returns : goal.returns
 returns c = unmarked_page _ _ _ c.render_shown.ensures
