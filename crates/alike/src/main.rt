@@ -11,7 +11,7 @@ use hazomeny::{
 use intake::read_full;
 use std::io;
 
-#[derive(Drop)]
+#[derive(Clone, Copy)]
 enum Entry {
     Plain,
     Body,
