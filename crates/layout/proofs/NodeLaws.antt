@@ -1,5 +1,5 @@
 -- A node's flexible layout: its cases.
-use Rattle.rules.proofs.Basics.{◌≡◌, refl, ap, ◌∙◌, List, [], ◌∷◌, ℕ, zero, suc, ◌-◌, ◌<◌, max, sub-one, arith, length, get_or, eq-eqb, ne_eqb}
+use Rattle.rules.proofs.Basics.{◌≡◌, refl, ap, ◌∙◌, List, ℕ, zero, suc, ◌-◌, max, sub-one, arith, get_or, eq-eqb, ne_eqb}
 use Rattle.rules.specs.Layout.{Shape, Block, ◌⊕◌, room}
 use Rattle.fields.specs.Walk.{Is}
 use Rattle.layout.specs.LaidIn.{Laid, decided, fragments_in, node_in, nodes_in, flex_in, fragment_in}

@@ -8,13 +8,13 @@ ghost use Rattle.std.proofs.Math.Option.{some};
 ghost use Rattle.rules.specs.Lines as rules;
 ghost use Rattle.lines.specs.Said.{line_of, waiting_of, break_of, machine_of, step_of, brought_of, break_bytes, copies, operation, own};
 
-#[derive(Drop)]
+#[derive(Clone, Copy, Drop)]
 pub enum Break {
     Space,
     NewLine,
 }
 
-#[derive(Drop)]
+#[derive(Clone, Copy, Drop)]
 pub enum LineOp {
     PushIndent,
     PopIndent,
@@ -28,21 +28,21 @@ pub enum LineOp {
     BreakIfWithinLine(Break),
 }
 
-#[derive(Drop)]
+#[derive(Clone, Copy, Drop)]
 pub enum LineState {
     Empty,
     Indented(usize),
     HasText,
 }
 
-#[derive(Drop)]
+#[derive(Clone, Copy, Drop)]
 pub enum Waiting {
     Nothing,
     Space,
     NewLine,
 }
 
-#[derive(Drop)]
+#[derive(Clone, Copy, Drop)]
 pub struct Machine {
     pub indent: usize,
     pub line: LineState,
@@ -198,7 +198,7 @@ fn append_to_line(m: Machine, text: &[u8]) -> Stepped
 
 // A newline, which empties the line and drops the waiting break.
 fn start_new_line(m: Machine) -> Stepped
-    ensures { step_of result [] ≡ rules.step {X = ℕ} (machine_of m) rules.new-line }
+    ensures { step_of result [] ≡ rules.step {X = ℕ} (machine_of m) rules.new_line }
 {
     without_item(
         Waiting::NewLine,

@@ -1,5 +1,5 @@
 -- What is answered and left when a mask is made.
-use Rattle.rules.proofs.Basics.{◌≡◌, refl, sym, ap, ap₂, ◌∙◌, List, [], Bool, ℕ, leb, ◌≤◌, ◌<◌, arith, length, take, take_all, le-leb, lt-leb}
+use Rattle.rules.proofs.Basics.{◌≡◌, refl, sym, ap, ap₂, ◌∙◌, List, Bool, ℕ, leb, ◌≤◌, ◌<◌, arith, length, take, take_all, le-leb, lt-leb}
 use Rattle.rules.specs.declared.Answer.{Answer}
 use Rattle.rules.specs.declared.Answer.TheVariants.{Done, Refused}
 use Rattle.rules.specs.declared.Refusal.{Refusal}

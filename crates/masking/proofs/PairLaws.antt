@@ -12,7 +12,7 @@ use Rattle.rules.specs.Encode.{encode}
 use Rattle.rules.specs.Mask.{text_places}
 use Rattle.pairs.proofs.MaskBytes.{mask_long}
 use Rattle.verify.proofs.Verdicts.{RefusedSo, refused_so, AcceptedAs, accepted_as}
-use Rattle.pairs.specs.Pair.{said, first_difference, same, text_at, pair_text, length_of, pair_answer}
+use Rattle.pairs.specs.Pair.{first_difference, same, text_at, pair_text, length_of, pair_answer}
 use Rattle.pairs.specs.Flat.{flags, length_at_place, found_length}
 use Rattle.pairs.proofs.OfFiles.{flags_of_file}
 use Rattle.pairs.proofs.Masks.{tree_passes}

@@ -1,6 +1,6 @@
 -- Unfinished headers: the code of what is open, the link to what is open around it, and closing.
-use Rattle.std.specs.Prelude.{◌||◌, List, ℕ, zero, suc, ◌+◌, ◌-◌, ◌*◌, ◌/◌, ◌%◌, leb, eqb, length, set, get_or}
-use Rattle.rules.specs.Bytes.{if◌then◌else◌, within}
+use Rattle.std.specs.Prelude.{List, ℕ, zero, suc, ◌+◌, ◌-◌, ◌*◌, ◌/◌, ◌%◌, leb, eqb, set, get_or}
+use Rattle.rules.specs.Bytes.{if◌then◌else◌}
 
 -- the root's code, above every byte
 abbrev pub root_code : ℕ

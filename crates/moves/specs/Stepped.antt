@@ -1,7 +1,7 @@
 -- A step of the writer on the lent bytes, its position and where the innermost open field is: what is answered and what is left, for every state.
-use Rattle.std.specs.Prelude.{◌≡◌, List, ◌++◌, Bool, true, false, ◌&&◌, ℕ, ◌+◌, ◌≤◌, leb, ltb, length, take, drop}
+use Rattle.std.specs.Prelude.{◌≡◌, List, ◌++◌, true, ◌&&◌, ℕ, ◌+◌, ◌≤◌, leb, ltb, length, take, drop}
 use Rattle.rules.specs.Limits.{most_bytes}
-use Rattle.rules.specs.Result.{Result, refused, accepted, ◌>>=◌, ◌>>◌, need, sound}
+use Rattle.rules.specs.Result.{Result, refused, accepted, ◌>>◌, need, sound}
 use Rattle.moves.specs.declared.Answer.{Answer}
 use Rattle.moves.specs.declared.Answer.TheVariants.{Done, Refused}
 use Rattle.moves.specs.declared.Moved.{Moved}

@@ -3,7 +3,7 @@
 #![tactic(auto)]
 
 // The steps. Those that put a text, a name or a style get it beside.
-#[derive(Drop)]
+#[derive(Clone, Copy)]
 pub enum Op {
     Text,
     Space,
@@ -30,7 +30,7 @@ pub enum Op {
 }
 
 // What a step can put.
-#[derive(Drop)]
+#[derive(Clone, Copy)]
 pub enum Piece {
     Nothing,
     // a text's node, of the style and the text given
@@ -47,7 +47,7 @@ pub enum Piece {
 }
 
 // In this order: a piece, so many fields closed, a field opened or not, by its code, another piece. `too_deep` where that field is a block inside 32 others.
-#[derive(Drop)]
+#[derive(Clone, Copy)]
 pub struct Plan {
     pub allowed: bool,
     pub before: Piece,
@@ -60,7 +60,7 @@ pub struct Plan {
 
 // Where `styled` is false there is no style. A value counts where its flag is true. An opacity is its float's bits, high byte first; thickness and size are
 // signed bytes, given as the byte that stands in the file.
-#[derive(Drop)]
+#[derive(Clone, Copy)]
 pub struct Style {
     pub styled: bool,
     pub has_colour: bool,

@@ -6,7 +6,7 @@ ghost use Rattle.pages.specs.Kinds.{form_of, framing_of, head, foot};
 use pens::state::Form;
 use writing::put_bytes;
 
-#[derive(Drop)]
+#[derive(Clone, Copy, Drop)]
 pub enum Kind {
     Plain,
     Body,
@@ -16,7 +16,7 @@ pub enum Kind {
 }
 
 // What stands around the items: nothing, the body's element, or the document and that element. Strict mode changes none of it.
-#[derive(Drop)]
+#[derive(Clone, Copy, Drop)]
 pub enum Framing {
     Nothing,
     Body,

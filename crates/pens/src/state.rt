@@ -15,7 +15,7 @@ pub const SPACE: usize = 1;
 pub const NEWLINE: usize = 2;
 
 // How items are shown: texts alone, or texts escaped and marks as tags; in strict mode a CR is escaped too.
-#[derive(Drop)]
+#[derive(Clone, Copy, Drop)]
 pub enum Form {
     Plain,
     Html,

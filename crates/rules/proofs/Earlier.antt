@@ -1,8 +1,8 @@
 -- Files in which no 16 holds a 39 have the answers that they had before a style could be underlined.
-use Rattle.rules.proofs.Basics.{◌≡◌, refl, sym, ◌∙◌, ap, subst, List, [], ◌∷◌, map, Bool, true, false, ◌&&◌, not, and-eq-true_iff, Option, none, some, ℕ, zero, suc, ◌+◌, arith, leb, eqb, length, take, drop, leb-true, leb-false, eqb-false, not-true}
+use Rattle.rules.proofs.Basics.{◌≡◌, refl, ◌∙◌, ap, subst, List, [], ◌∷◌, Bool, true, false, and-eq-true_iff, Option, none, some, ℕ, zero, suc, ◌+◌, arith, leb, eqb, length, take, drop, leb-true, leb-false, eqb-false, not-true}
 use Rattle.rules.specs.Limits.{last_style}
 use Rattle.rules.specs.Bytes.{number}
-use Rattle.rules.specs.Result.{Result, accepted, ◌>>=◌, ◌>>◌, need}
+use Rattle.rules.specs.Result.{Result, accepted, ◌>>=◌}
 use Rattle.rules.specs.Walk.{Holder, in_fragment, in_block, in_text, in_anchor, in_styles, Fields, Field, Value, put, Content, content, allowed_to, front_to, valued, walk_to, check, check_to, holds}
 use Rattle.rules.specs.Tree.{read_to}
 use Rattle.rules.specs.Html.{escape}

@@ -1,5 +1,5 @@
 -- The file that layout leaves: of the same length, accepted, as the tree laid out.
-use Rattle.rules.proofs.Basics.{◌≡◌, refl, sym, subst, List, ◌++◌, Bool, some, ℕ, ◌+◌, arith, length, length-append}
+use Rattle.rules.proofs.Basics.{◌≡◌, refl, sym, subst, List, ◌++◌, Bool, some, ℕ, arith, length, length-append}
 use Rattle.rules.specs.Result.{accepted}
 use Rattle.rules.specs.Walk.{Fields, bytes, inside, end, in_fragment, in_block, holds, allowed_to, right_length, is_block, complete}
 use Rattle.rules.specs.Tree.{Leaf, text, anchor, space, force, if_block, Kind, indented, flexible, Frag, Frags}

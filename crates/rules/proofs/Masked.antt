@@ -4,7 +4,7 @@ use Rattle.rules.specs.Bytes.{if◌then◌else◌, has}
 use Rattle.rules.specs.Utf8.{utf8, utf8_after, following}
 use Rattle.rules.specs.Result.{accepted, ◌>>=◌}
 use Rattle.rules.specs.Walk.{Fields, check, text_content, content, is_text}
-use Rattle.rules.specs.Tree.{read, read_to}
+use Rattle.rules.specs.Tree.{read_to}
 use Rattle.rules.specs.Good.{Bytes}
 use Rattle.rules.specs.Answers.{tree, check_answer, check_answer_by}
 use Rattle.rules.specs.Mask.{text_places, ByteAlike, mask_byte, mask_bytes, mask}

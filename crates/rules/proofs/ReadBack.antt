@@ -1,5 +1,5 @@
 -- The body of an accepted file, read back, is a newline and then the plain page, in today's mode and in strict mode.
-use Rattle.rules.proofs.Basics.{◌≡◌, refl, sym, ◌∙◌, ap, List, [], ◌∷◌, append-nil, Bool, true, false, ℕ, leb, eqb, length, take, drop, take_at, eqb-true, not-true}
+use Rattle.rules.proofs.Basics.{◌≡◌, refl, List, [], ◌∷◌, append-nil, Bool, true, false, ℕ, eqb, take, eqb-true, not-true}
 use Rattle.rules.specs.Bytes.{if◌then◌else◌, ascii, join, has, newline}
 use Rattle.rules.specs.Result.{Result, accepted}
 use Rattle.rules.specs.Walk.{Fields, end, bytes, inside, Holder, content, anchor_content}
@@ -11,7 +11,7 @@ use Rattle.rules.specs.Plain.{chars, plain, fill}
 use Rattle.rules.specs.Html.{Escape, ampersand, less_than, carriage_return, as_it_is, escape, strict_escape, root, opening, closing, makes, escaped, id_attribute, mark_html, item_html, items_html, body}
 use Rattle.rules.specs.Answers.{itself, tree, strict_tree, plain_text_by, plain_outcome, plain_outcome_by, body_text_by, body_outcome, body_outcome_by, strict_body_outcome}
 use Rattle.rules.specs.ReadBack.{at_text, at_tag, at_value, same_bytes, referred, onward, shows, shown_from, ending, Reads, ReadBack}
-use Rattle.rules.proofs.Chains.{no_path, bind_inv}
+use Rattle.rules.proofs.Chains.{bind_inv}
 use Rattle.rules.proofs.PageText.{text_written}
 use Rattle.rules.proofs.Files.{tree_read}
 use Rattle.rules.proofs.Strict.{strict_read}

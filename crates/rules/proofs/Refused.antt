@@ -3,7 +3,7 @@ use Rattle.rules.proofs.Basics.{◌≡◌, refl, sym, List, [], ◌∷◌, ◌++
 use Rattle.rules.specs.Limits.{most_bytes}
 use Rattle.rules.specs.Bytes.{if◌then◌else◌, has}
 use Rattle.rules.specs.Result.{Result, refused, accepted, ◌>>=◌, ◌>>◌, need, Check, ◌or_refuse◌, sound}
-use Rattle.rules.specs.Walk.{Fields, Holder, in_fragment, in_block, in_text, in_anchor, in_styles, front, front_to, Content, valued, walk, walk_to, check, check_to, text_content, anchor_content, content, is_text, strict_content, content_in, complete, tags, holds}
+use Rattle.rules.specs.Walk.{Fields, Holder, in_fragment, in_block, in_text, in_anchor, in_styles, front, front_to, Content, valued, walk, walk_to, check_to, text_content, anchor_content, content, is_text, strict_content, content_in, complete, tags, holds}
 use Rattle.rules.specs.Tree.{Frag, read, read_to, frag_of}
 use Rattle.rules.specs.Good.{depth_in}
 use Rattle.rules.specs.Answers.{itself, tree, strict_tree}

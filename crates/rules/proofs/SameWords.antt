@@ -8,7 +8,6 @@ use Rattle.rules.specs.Encode.{run_fields, runs_fields, anchor_tag, leaf_fields,
 use Rattle.rules.specs.Good.{Bytes}
 use Rattle.rules.specs.Layout.{parts}
 use Rattle.rules.specs.Lines.{LineOp, part, mark, Mark, push, pop, open_anchor, close_anchor, char, marked, copied, later, styled, text_ops, run_ops, runs_ops, leaf_ops, ops, indented_ops, inline_ops, start, items}
-use Rattle.rules.specs.Plain.{chars}
 use Rattle.rules.specs.Answers.{tree, check_answer, check_answer_by, layout_outcome}
 use Rattle.rules.specs.SameWords.{white, white_item, without, words, visible, marks, accepted_fields, file_fields, texts, without_7, page_items, SaysTheSame}
 use Rattle.rules.proofs.Chains.{no_path, bind_inv}

@@ -1,11 +1,11 @@
 -- Strict mode accepts exactly the files that are accepted and have no NUL in a text, as the same tree.
-use Rattle.rules.proofs.Basics.{◌≡◌, refl, sym, ◌∙◌, ap, subst, List, [], ◌∷◌, ◌++◌, Bool, true, false, not, ◌||◌, ◌↔◌, ℕ, zero, suc, ◌<◌, arith, eqb, length, get_or, replicate, length-append, length-replicate, ne_eqb, eqb-false, not-true}
+use Rattle.rules.proofs.Basics.{◌≡◌, refl, sym, ap, subst, List, [], ◌∷◌, ◌++◌, Bool, true, false, not, ◌||◌, ◌↔◌, ℕ, zero, suc, ◌<◌, arith, eqb, length, get_or, replicate, length-append, length-replicate, ne_eqb, eqb-false, not-true}
 use Rattle.rules.specs.Bytes.{if◌then◌else◌, has}
 use Rattle.rules.specs.Result.{accepted, Check, ◌or_refuse◌, ◌>>=◌}
 use Rattle.rules.specs.Walk.{Fields, end, bytes, inside, Holder, in_fragment, content, is_text, strict_content}
 use Rattle.rules.specs.Tree.{Frag}
 use Rattle.rules.specs.Encode.{field, encode_fields, frag_fields, encode}
-use Rattle.rules.specs.Good.{Bytes, AllHold, GoodAs, GoodTreeAs}
+use Rattle.rules.specs.Good.{Bytes, AllHold, GoodAs}
 use Rattle.rules.specs.Answers.{tree, strict_tree, check_answer, strict_check_answer, check_answer_by}
 use Rattle.rules.specs.Mask.{in_texts, accepted_texts, text_places, Without}
 use Rattle.rules.specs.Alike.{Page, plain_page, html_body, html_document, strict_body, strict_document, Clear, tree_of}

@@ -1,5 +1,5 @@
 -- Layout brings no byte into a text: where no text of a file has the byte b, none has of what layout leaves.
-use Rattle.rules.proofs.Basics.{◌≡◌, refl, sym, ◌∙◌, List, Bool, true, false, ℕ, ◌<◌, arith, leb, length, get_or}
+use Rattle.rules.proofs.Basics.{◌≡◌, sym, ◌∙◌, List, Bool, true, false, ℕ, ◌<◌, arith, leb, length}
 use Rattle.rules.specs.Limits.{most_columns}
 use Rattle.rules.specs.Bytes.{has, newline}
 use Rattle.rules.specs.Result.{accepted, ◌>>◌, need}
@@ -7,7 +7,7 @@ use Rattle.rules.specs.Tree.{Frag}
 use Rattle.rules.specs.Good.{Bytes}
 use Rattle.rules.specs.Layout.{layout}
 use Rattle.rules.specs.Answers.{tree, changed, left_laid, layout_outcome}
-use Rattle.rules.specs.Mask.{text_places, Without}
+use Rattle.rules.specs.Mask.{Without}
 use Rattle.rules.specs.Alike.{Page, plain_page, html_body, html_document, strict_body, strict_document, Clear, at}
 use Rattle.rules.proofs.Changed.{turns_length, three_at}
 use Rattle.rules.proofs.LeftLaid.{laid, turns, turned_byte, laid_places, laid_by_width}

@@ -1,5 +1,5 @@
 -- A step that is carried out: what stands in the buffer after each of its parts.
-use Rattle.rules.proofs.Basics.{◌≡◌, refl, sym, ap, ap₂, ◌∙◌, List, [], ◌∷◌, ◌++◌, append_assoc, ℕ, zero, suc, ◌+◌, ◌≤◌, ◌<◌, min, max, arith, Bool, true, false, eqb, leb, le-leb, length, take, drop, length-append, length-drop, take-append-drop, drop-drop, length-take-le, sets-eq, ◌||◌, ◌&&◌}
+use Rattle.rules.proofs.Basics.{◌≡◌, refl, sym, ap, ap₂, ◌∙◌, List, ◌++◌, ℕ, zero, suc, ◌+◌, ◌≤◌, ◌<◌, arith, Bool, true, false, eqb, leb, le-leb, length, take, drop, length-append, length-drop, take-append-drop, drop-drop, length-take-le, sets-eq, ◌||◌}
 use lib.Seq.{take-append_seam, drop-append-add}
 use Rattle.rules.proofs.Chains.{no_path}
 use Rattle.rules.specs.Limits.{most_bytes}
@@ -10,7 +10,7 @@ use Rattle.moves.specs.declared.Plan.{Plan}
 use Rattle.moves.specs.declared.Style.{Style}
 use Rattle.moves.specs.declared.Moved.{Moved}
 use Rattle.moves.specs.Opened.{link_at, closed_bytes, closed_top}
-use Rattle.moves.specs.Plans.{piece_bytes, piece_size, header_size, plan_size, opened_header, opened_top, sane, closable}
+use Rattle.moves.specs.Plans.{piece_bytes, header_size, plan_size, opened_header, opened_top, sane, closable}
 use Rattle.moves.specs.Stepped.{said, Says, left, carried_out, so_far, Ready}
 use Rattle.rules.specs.Answers.{coded}
 use Rattle.scribe.specs.Near.{Near}

@@ -1,15 +1,14 @@
 -- The number of the first check that fails: of texts, of names, of one list of checks behind another.
-use Rattle.rules.proofs.Basics.{◌≡◌, refl, sym, ap, ◌∙◌, List, [], ◌∷◌, ◌++◌, ℕ, zero, suc, ◌<◌, ◌≤◌, arith, Bool, true, false, not, eqb, ◌||◌}
+use Rattle.rules.proofs.Basics.{◌≡◌, refl, sym, ◌∙◌, List, [], ◌∷◌, ◌++◌, ℕ, ◌<◌, ◌≤◌, arith, Bool, true, false, not, eqb, ◌||◌}
 use Rattle.rules.proofs.Chains.{no_path}
 use Rattle.rules.specs.Bytes.{if◌then◌else◌, has, number}
 use Rattle.rules.specs.Result.{Check, ◌or_refuse◌}
 use Rattle.rules.specs.Utf8.{utf8}
-use Rattle.rules.specs.Walk.{Fields, end, bytes, inside, content, text_content, anchor_content, complete, in_styles, right_opacity, right_size}
+use Rattle.rules.specs.Walk.{Fields, end, bytes, inside, content, text_content, anchor_content, complete, right_opacity, right_size}
 use Rattle.utf8.specs.Answer.{utf8_answer, sound_if}
 use Rattle.utf8.specs.declared.Utf8.{Utf8}
 use Rattle.utf8.specs.declared.Utf8.TheVariants.{Sound, Broken}
 use Rattle.scripts.specs.Steps.{value_checks, style_checks, run_checks}
-use Rattle.rules.specs.Tree.{Run}
 use mathlib.Core.Option.{Option, none, some}
 use Rattle.moves.specs.declared.Piece.{Piece}
 use Rattle.moves.specs.declared.Piece.TheVariants as piece

@@ -1,7 +1,6 @@
 -- Steps by number, and an answer in one.
 use Rattle.rules.proofs.Basics.{◌≡◌, refl, sym, List, [], ◌∷◌, ℕ, zero, suc, ◌+◌, ◌*◌, ◌≤◌, arith, length, get_or}
 use Rattle.rules.specs.Answers.{coded}
-use Rattle.moves.specs.declared.Op.{Op}
 use Rattle.moves.specs.declared.Op.TheVariants.{Finish}
 use Rattle.moves.specs.declared.Answer.{Answer}
 use Rattle.moves.specs.declared.Answer.TheVariants.{Done, Refused}

@@ -1,8 +1,7 @@
 -- The code of what is open, and closing it.
-use Rattle.rules.proofs.Basics.{◌≡◌, refl, sym, ap, ap₂, ◌∙◌, List, ◌++◌, ℕ, zero, suc, ◌+◌, ◌-◌, ◌*◌, ◌/◌, ◌%◌, ◌≤◌, ◌<◌, arith, true, get_or, set, length, length-set, ltb, leb}
+use Rattle.rules.proofs.Basics.{◌≡◌, refl, ap, ap₂, ◌∙◌, List, ◌++◌, ℕ, zero, suc, ◌+◌, ◌-◌, ◌*◌, ◌/◌, ◌%◌, ◌≤◌, ◌<◌, arith, true, get_or, set, length, length-set}
 use lib.ListN.{get_or-append}
 use lib.Seq.{set-append_left}
-use Rattle.rules.specs.Limits.{most_bytes}
 use Rattle.moves.specs.Opened.{code_at, link_at, true_tag, closed_in, closed_bytes, closed_top}
 use Rattle.moves.specs.Plans.{sane, closable}
 use Rattle.scribe.proofs.PlanLaws.{Sane, is_sane, closes_one, Two, closes_two}

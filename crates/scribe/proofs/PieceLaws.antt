@@ -1,15 +1,13 @@
 -- The bytes of a piece: how many, and that a piece that fits has a short text.
-use Rattle.rules.proofs.Basics.{◌≡◌, refl, sym, ap, ◌∙◌, List, [], ◌∷◌, ◌++◌, ℕ, ◌+◌, ◌≤◌, ◌<◌, min, arith, length, length-append}
-use Rattle.rules.specs.Limits.{most_bytes}
+use Rattle.rules.proofs.Basics.{◌≡◌, refl, List, [], ℕ, ◌+◌, ◌≤◌, ◌<◌, min, arith, length}
 use Rattle.rules.specs.Encode.{field, encode_fields, run_fields}
-use Rattle.scripts.specs.Joins.{comma, unstyled}
+use Rattle.scripts.specs.Joins.{comma}
 use Rattle.scripts.specs.Shown.{run_bytes}
 use Rattle.moves.specs.declared.Piece.{Piece}
 use Rattle.moves.specs.declared.Piece.TheVariants as piece
 use Rattle.moves.specs.declared.Plan.{Plan}
 use Rattle.moves.specs.declared.Style.{Style}
-use Rattle.moves.specs.Style.{run, style_size}
-use Rattle.moves.specs.Plans.{piece_bytes, piece_size, header_size, plan_size}
+use Rattle.moves.specs.Plans.{piece_bytes, piece_size, plan_size}
 use Rattle.scribe.proofs.StyleLaws.{run_length}
 
 field_length : (t : ℕ) (v : List ℕ) → length (field t v) ≡ 3 + length v

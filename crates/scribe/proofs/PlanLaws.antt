@@ -1,5 +1,5 @@
 -- What is open by its kind, where no arm of a table is taken; the numbers that a writer can have; the fields that can be closed.
-use Rattle.rules.proofs.Basics.{◌≡◌, refl, sym, ◌∙◌, List, ℕ, zero, suc, ◌+◌, ◌≤◌, ◌<◌, arith, Bool, true, false, ◌&&◌, ◌||◌, leb, ltb, eqb, ne_eqb, eqb-true, leb-true, ltb-true, le-leb, lt-leb, and-eq-true_iff}
+use Rattle.rules.proofs.Basics.{◌≡◌, refl, List, ℕ, zero, suc, ◌+◌, ◌≤◌, ◌<◌, arith, Bool, true, false, ◌&&◌, ◌||◌, leb, ltb, eqb, ne_eqb, eqb-true, leb-true, ltb-true, le-leb, lt-leb}
 use Rattle.rules.specs.Limits.{most_bytes}
 use Rattle.rules.proofs.Chains.{no_path}
 use Rattle.moves.specs.Plans.{puts, next_plan, end_space_plan, end_comma_plan, sane, closable}

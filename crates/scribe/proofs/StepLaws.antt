@@ -1,13 +1,13 @@
 -- What a step says, need by need: 11, what is wrong in what it brings, 1, then 10.
-use Rattle.rules.proofs.Basics.{◌≡◌, refl, sym, ap, subst, ◌∙◌, List, [], ◌∷◌, ℕ, ◌+◌, ◌≤◌, ◌<◌, min, max, arith, Bool, true, false, not, not-true, not-false, ◌&&◌, leb, ltb, le-leb, lt-leb, length}
+use Rattle.rules.proofs.Basics.{◌≡◌, refl, sym, ap, subst, ◌∙◌, List, [], ◌∷◌, ℕ, ◌+◌, ◌≤◌, ◌<◌, min, max, arith, Bool, true, false, not, not-true, not-false, ◌&&◌, ltb, le-leb, lt-leb, length}
 use Rattle.rules.specs.Limits.{most_bytes}
-use Rattle.rules.specs.Result.{Result, refused, accepted, ◌>>=◌, ◌>>◌, need, Check, ◌or_refuse◌, sound}
+use Rattle.rules.specs.Result.{Result, refused, accepted, ◌>>◌, need, Check, ◌or_refuse◌, sound}
 use Rattle.moves.specs.declared.Op.{Op}
 use Rattle.moves.specs.declared.Plan.{Plan}
 use Rattle.moves.specs.declared.Style.{Style}
 use Rattle.moves.specs.declared.Moved.{Moved}
 use Rattle.moves.specs.Opened.{code_at}
-use Rattle.moves.specs.Plans.{plan, first_node, plan_size, plan_checks, piece_checks, first_fault, sane, closable}
+use Rattle.moves.specs.Plans.{plan, first_node, plan_size, plan_checks, first_fault, sane, closable}
 use Rattle.moves.specs.Stepped.{Written, said, Says, left, carried_out, so_far, fitting, planned, answered, stepped, Ready}
 use Rattle.rules.specs.Answers.{coded}
 use Rattle.scribe.specs.Near.{Near}
@@ -101,10 +101,10 @@ unfolding need
 unmet t n p e = rw e
 
 -- a test of the code that did not fail
-pub passed : {k x : Bool} → k ≡ x → not k ≡ false → x ≡ true
-passed q k = sym q ∙ not-false _ k
+pub passed : {k x : Bool} → k ≡ x → k ≡ true → x ≡ true
+passed q k = sym q ∙ k
 
-pub reach : (room at top : ℕ) {s : Bool} → s ≡ sane room at top → not s ≡ false → (top ≤ room) × (top ≤ 60_000)
+pub reach : (room at top : ℕ) {s : Bool} → s ≡ sane room at top → s ≡ true → (top ≤ room) × (top ≤ 60_000)
 reach room at top e h = let s : Sane room at top = is_sane (passed e h) in (omega (arith, s.low, s.in_room), omega (arith, s.low, s.in_file))
 
 both_hold : (a b : Bool) → a ≡ true → b ≡ true → (a && b) ≡ true
@@ -127,17 +127,17 @@ module _ (p : Plan) (st : Style) (v b : List ℕ) (at top : ℕ) where
   pub not_allowed : {m : Moved} → not p.allowed ≡ true → Refused m at top 11 at → Says m b (left b at top (planned p st v b at top))
   not_allowed h m = refused_open (first_fails p.allowed _ (not-true _ h)) m
 
-  pub not_closable : {m : Moved} {k : Bool} → not p.allowed ≡ false → k ≡ closable b top p.closes → not k ≡ true → Refused m at top 11 at → Says m b (left b at top (planned p st v b at top))
-  not_closable h q k m = refused_open (second_fails p.allowed _ (not-false _ h) (sym q ∙ not-true _ k)) m
+  pub not_closable : {m : Moved} {k : Bool} → not p.allowed ≡ false → k ≡ closable b top p.closes → k ≡ false → Refused m at top 11 at → Says m b (left b at top (planned p st v b at top))
+  not_closable h q k m = refused_open (second_fails p.allowed _ (not-false _ h) (sym q ∙ k)) m
 
-  pub faulty : {m : Moved} {k : Bool} {f : ℕ} → not p.allowed ≡ false → k ≡ closable b top p.closes → not k ≡ false → f ≡ first_fault (plan_checks p st v) → (f ≡ 0 → ⊥) → Refused m at top f at
+  pub faulty : {m : Moved} {k : Bool} {f : ℕ} → not p.allowed ≡ false → k ≡ closable b top p.closes → k ≡ true → f ≡ first_fault (plan_checks p st v) → (f ≡ 0 → ⊥) → Refused m at top f at
       → Says m b (left b at top (planned p st v b at top))
   unfolding planned
   faulty {f = f} h q k e z m =
       refusing b at top f at (planned p st v b at top) (past (need open_so 11 at) _ tt (met open_so 11 at (both_hold p.allowed _ (not-false _ h) (passed q k)))
       ∙ stopped (sound (plan_checks p st v) at) _ f at (sound_fault (plan_checks p st v) at (plan_numbered p st v) e z)) m
 
-  pub sound_so : {m : Moved} {b' : List ℕ} {k : Bool} {f : ℕ} → not p.allowed ≡ false → k ≡ closable b top p.closes → not k ≡ false → f ≡ first_fault (plan_checks p st v) → f ≡ 0
+  pub sound_so : {m : Moved} {b' : List ℕ} {k : Bool} {f : ℕ} → not p.allowed ≡ false → k ≡ closable b top p.closes → k ≡ true → f ≡ first_fault (plan_checks p st v) → f ≡ 0
       → Says m b' (left b at top (fitting (length b) at (carried_out p st v (so_far b at top)))) → Says m b' (left b at top (planned p st v b at top))
   unfolding planned
   sound_so {m} {b'} h q k e z s =
@@ -148,11 +148,11 @@ module _ (p : Plan) (st : Style) (v b : List ℕ) (at top : ℕ) where
 -- ---- every state
 
 module _ (op : Op) (st : Style) (v b : List ℕ) (at top : ℕ) where
-  pub not_sane : {m : Moved} {s : Bool} → s ≡ sane (length b) at top → not s ≡ true → Refused m at top 11 at → Says m b (stepped op st v b at top)
+  pub not_sane : {m : Moved} {s : Bool} → s ≡ sane (length b) at top → s ≡ false → Refused m at top 11 at → Says m b (stepped op st v b at top)
   unfolding stepped answered
-  not_sane e h m = refusing b at top 11 at (answered op st v b at top) (stopped (need (sane (length b) at top) 11 at) _ 11 at (unmet _ 11 at (sym e ∙ not-true _ h))) m
+  not_sane e h m = refusing b at top 11 at (answered op st v b at top) (stopped (need (sane (length b) at top) 11 at) _ 11 at (unmet _ 11 at (sym e ∙ h))) m
 
-  pub sanely : {m : Moved} {b' : List ℕ} {s : Bool} {c n : ℕ} {p : Plan} → s ≡ sane (length b) at top → not s ≡ false → (c ≡ code_at b top) × (c ≤ 256) → n ≡ first_node c top → p ≡ plan op c (ltb n at)
+  pub sanely : {m : Moved} {b' : List ℕ} {s : Bool} {c n : ℕ} {p : Plan} → s ≡ sane (length b) at top → s ≡ true → (c ≡ code_at b top) × (c ≤ 256) → n ≡ first_node c top → p ≡ plan op c (ltb n at)
       → Says m b' (left b at top (planned p st v b at top)) → Says m b' (stepped op st v b at top)
   unfolding stepped answered
   sanely {m} {b'} {c = c} {n} {p} e h q f g s =

@@ -1,6 +1,6 @@
 -- The bytes of a style and of a text's node.
-use Rattle.rules.proofs.Basics.{◌≡◌, refl, sym, ap, ap₂, subst, ◌∙◌, List, [], ◌∷◌, ◌++◌, append_assoc, append-nil, ℕ, suc, ◌+◌, ◌/◌, ◌%◌, ◌≤◌, ◌<◌, arith, Bool, true, false, length, length-append}
-use Rattle.rules.specs.Walk.{Fields, end, bytes}
+use Rattle.rules.proofs.Basics.{◌≡◌, refl, sym, ap, ap₂, subst, ◌∙◌, List, [], ◌++◌, append_assoc, append-nil, ℕ, ◌+◌, arith, Bool, true, false, length, length-append}
+use Rattle.rules.specs.Walk.{Fields}
 use Rattle.rules.specs.Encode.{field, encode_fields, run_fields}
 use Rattle.scripts.specs.Shown.{run_bytes, open_header}
 use Rattle.writing.specs.Written.{Written}

@@ -1,5 +1,4 @@
 -- What a writer is once a step was taken.
-use Rattle.std.specs.Prelude.{List, ℕ}
 use denote.Ref.{at_last}
 use Rattle.scribe.specs.declared.held.Writer.{Writer}
 use Rattle.moves.specs.Stepped.{State}

@@ -1,6 +1,5 @@
 -- A writer's step by numbers, as a caller in C gives it.
 use Rattle.std.specs.Prelude.{◌≡◌, List, [], ◌∷◌, Bool, true, false, not, ℕ, leb, eqb, get_or, set}
-use Rattle.rules.specs.Bytes.{if◌then◌else◌}
 use Rattle.rules.specs.Result.{refused}
 use Rattle.rules.specs.Answers.{coded}
 use Rattle.moves.specs.declared.Op.{Op}

@@ -18,7 +18,7 @@ use fields::{Field, field_at};
 
 // A value stands beside its flag, and counts where the flag is set. In this order there is no gap between the fields; one would be copied by itself whenever
 // a style is handed on.
-#[derive(Drop)]
+#[derive(Clone, Copy)]
 pub struct Styles {
     pub has_colour: bool,
     pub colour: [u8; 3],

@@ -12,7 +12,7 @@ use Rattle.verify.proofs.RestLaws.{At, begins, tag_there, rest_part, rest_none, 
 
 -- the field where a 17 has to stand
 wanted : {s : List ℕ} {at end t from to : ℕ} → At s end at t from to → {before : ℕ} {ts : List ℕ} → TextLeft before ts s at end → allowed in_text before t ≡ eqb t 17
-wanted A L = rw (tag_there A) at (L.one-Wanted A.inside)
+wanted A L = rw (tag_there A) at (L.one_wanted A.inside)
 
 module _ {strict : Bool} {s : List ℕ} {place at end : ℕ} (P : Between s place at end) {t from to : ℕ} (A : At s end at t from to) (d before : ℕ) (ts : List ℕ) (L : TextLeft before ts s at end) where
   pub other_tag : {x : Result (Unit {0})} → (t ≡ 17 → ⊥) → x ≡ refused 4 at → RestSaid strict in_text ts d before place at (slice at end s) x

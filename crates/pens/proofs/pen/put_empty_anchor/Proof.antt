@@ -1,4 +1,4 @@
--- `pages::pen::put_empty_anchor` meets its contract: its two tags.
+-- `pens::pen::put_empty_anchor` meets its contract: its two tags.
 use Rattle.pens.proofs.Pens.{shows_both}
 use borrow.Author.Rules.{rules}
 use Rattle.pens.proofs.pen.put_empty_anchor.Statement.{statement}

@@ -1,4 +1,4 @@
--- `pages::pen::put_html` meets its contract: by the operation.
+-- `pens::pen::put_html` meets its contract: by the operation.
 use Rattle.rules.proofs.Basics.{sym, subst, needs}
 use Rattle.styles.specs.Said.{Writable}
 use Rattle.styles.proofs.StylesWritable.{styles_writable}

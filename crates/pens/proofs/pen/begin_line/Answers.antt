@@ -1,0 +1,6 @@
+-- `pens::pen::begin_line` meets its contract.
+use Rattle.pens.proofs.NewLines.{line_begun}
+use Rattle.pens.proofs.pen.begin_line.Goals as goal
+
+pub returns : goal.returns
+returns c = line_begun c.put-at.ensures c.on_line.ensures

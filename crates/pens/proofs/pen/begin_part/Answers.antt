@@ -1,0 +1,7 @@
+-- `pens::pen::begin_part` meets its contract: what stands before it, and its bytes.
+use Rattle.pens.proofs.BeforeItems.{part_ready}
+use Rattle.pens.proofs.pen.begin_part.Goals as goal
+
+pub returns : goal.returns
+returns c =
+    part_ready _ c.put_ready-from.ensures c.form_in.ensures c.requires c.put_part-at.ensures c.on_line.ensures

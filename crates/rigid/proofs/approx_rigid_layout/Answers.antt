@@ -1,0 +1,27 @@
+-- `rigid::approx_rigid_layout` meets its contract: by the tag.
+use Rattle.rigid.specs.RigidIn.{by_tag}
+use Rattle.rigid.proofs.Tags.{other_tag}
+use Rattle.rigid.proofs.approx_rigid_layout.Goals as goal
+
+pub returns-in-1 : goal.returns-in-1
+returns-in-1 c = unfold by_tag in rw c.in-1.is c.run_layout.ensures
+
+pub returns-in-2 : goal.returns-in-2
+returns-in-2 c = unfold by_tag in rw c.in-2.is c.anchor_layout.ensures
+
+pub returns-in-3 : goal.returns-in-3
+returns-in-3 c = unfold by_tag in rw c.in-3.is c.block_or_mixed.ensures
+
+pub returns-in-5 : goal.returns-in-5
+returns-in-5 c = unfold by_tag in rw c.in-5.is c.inline.ensures
+
+pub returns-in-6 : goal.returns-in-6
+returns-in-6 c = unfold by_tag in rw c.in-6.is c.block_or_mixed-in-6.ensures
+
+pub returns-in-7 : goal.returns-in-7
+returns-in-7 c = unfold by_tag in rw c.in-7.is c.if_block_layout.ensures
+
+pub returns-in_default : goal.returns-in_default
+returns-in_default c =
+    let r = c.in_default.in_default-own.rest in
+    other_tag _ r.0.0.0.0.0.1 r.0.0.0.0.1 r.0.0.0.1 r.0.0.1 r.0.1 r.1 c.inline-in_default.ensures
