@@ -8,9 +8,10 @@ use fields::wide;
 use hazomeny::{
     hazomeny_check, hazomeny_html_body, hazomeny_html_document, hazomeny_layout, hazomeny_plain,
 };
-use libc::{STDIN_FILENO, STDOUT_FILENO};
+use intake::read_full;
+use std::io;
 
-#[derive(Drop)]
+#[derive(Clone, Copy)]
 enum Entry {
     Plain,
     Body,
@@ -52,13 +53,11 @@ fn differ_where_copied(file: &[u8], mask: &[u8], other: &[u8]) -> bool {
     true
 }
 
-fn say(entry: &[u8], alike: bool) {
-    io::write_all(STDOUT_FILENO, entry);
+fn say(rt: &impl Print, entry: &str, alike: bool) -> io::Result<()> {
     if alike {
-        io::write_all(STDOUT_FILENO, b" alike\n");
-        return;
+        return println!(rt; "{entry} alike");
     }
-    io::write_all(STDOUT_FILENO, b" NOT alike\n");
+    println!(rt; "{entry} NOT alike")
 }
 
 fn checks_alike(file: &[u8], mask: &[u8], other: &[u8]) -> bool {
@@ -93,15 +92,26 @@ fn pages_alike(entry: Entry, file: &[u8], mask: &[u8], other: &[u8]) -> bool {
     false
 }
 
-fn compare(file: &mut [u8], mask: &mut [u8], other: &mut [u8], width: usize) {
-    say(b"check", checks_alike(file, mask, other));
-    say(b"layout", layouts_alike(file, mask, other, width));
-    say(b"plain page", pages_alike(Entry::Plain, file, mask, other));
-    say(b"HTML body", pages_alike(Entry::Body, file, mask, other));
+fn compare(
+    rt: &impl Print,
+    file: &mut [u8],
+    mask: &mut [u8],
+    other: &mut [u8],
+    width: usize,
+) -> io::Result<()> {
+    say(rt, "check", checks_alike(file, mask, other))?;
+    say(rt, "layout", layouts_alike(file, mask, other, width))?;
     say(
-        b"HTML document",
+        rt,
+        "plain page",
+        pages_alike(Entry::Plain, file, mask, other),
+    )?;
+    say(rt, "HTML body", pages_alike(Entry::Body, file, mask, other))?;
+    say(
+        rt,
+        "HTML document",
         pages_alike(Entry::Document, file, mask, other),
-    );
+    )
 }
 
 fn copy(from: &[u8], into: &mut [u8]) {
@@ -116,33 +126,41 @@ fn copy(from: &[u8], into: &mut [u8]) {
 }
 
 // The three files, each in a buffer of its own length: layout changes them.
-fn compare_files(files: &[u8], file: &mut [u8], mask: &mut [u8], other: &mut [u8], width: usize) {
+fn compare_files(
+    rt: &impl Print,
+    files: &[u8],
+    file: &mut [u8],
+    mask: &mut [u8],
+    other: &mut [u8],
+    width: usize,
+) -> io::Result<()> {
     let n = files.len() / 3;
     copy(&files[..n], file);
     copy(&files[n..n + n], mask);
     copy(&files[n + n..], other);
-    compare(file, mask, other, width);
+    compare(rt, file, mask, other, width)
 }
 
-fn main() {
+fn main(rt: HostRuntime) -> io::Result<()> {
     let mut input = [0u8; 196608];
     let mut file = [0u8; 65536];
     let mut mask = [0u8; 65536];
     let mut other = [0u8; 65536];
-    let n = io::read_full(STDIN_FILENO, &mut input);
+    let n = read_full(&mut rt.stdin(), &mut input)?;
     if n < 2 {
-        return;
+        return Ok(());
     }
     let width = wide(input[0]) * 256 + wide(input[1]);
     let each = (n - 2) / 3;
     if 65536 < each {
-        return;
+        return Ok(());
     }
     compare_files(
+        &rt,
         &input[2..n],
         &mut file[..each],
         &mut mask[..each],
         &mut other[..each],
         width,
-    );
+    )
 }

@@ -1,5 +1,5 @@
 // The public entries: each is total and terminates, has no preconditions, and answers as document 01 says. The C names take slices and numbers
-// and answer in one number (`coded` of rules). The writer's entries in Rattle are `scribe::held`; here is its C name.
+// and answer in one number (`coded` of rules); `hazomeny_c` exports them. The writer's entries in Rattle are `scribe::held`; here is its C name.
 
 #![tactic(auto)]
 
@@ -34,8 +34,7 @@ pub fn check_file(file: &[u8]) -> Answer
     check(file)
 }
 
-#[unsafe(no_mangle)]
-pub extern "C" fn hazomeny_check(file: &[u8]) -> u64
+pub fn hazomeny_check(file: &[u8]) -> u64
     ensures { result ≡ coded (check_answer file.now) }
 {
     in_one(check_file(file))
@@ -48,8 +47,7 @@ pub fn check_file_strict(file: &[u8]) -> Answer
     check_strict(file)
 }
 
-#[unsafe(no_mangle)]
-pub extern "C" fn hazomeny_check_strict(file: &[u8]) -> u64
+pub fn hazomeny_check_strict(file: &[u8]) -> u64
     ensures { result ≡ coded (strict_check_answer file.now) }
 {
     in_one(check_file_strict(file))
@@ -62,8 +60,7 @@ pub fn layout_file(file: &mut [u8], width: usize) -> Answer
     layout_with_max_line_width(file, width)
 }
 
-#[unsafe(no_mangle)]
-pub extern "C" fn hazomeny_layout(file: &mut [u8], width: usize) -> u64
+pub fn hazomeny_layout(file: &mut [u8], width: usize) -> u64
     ensures { (result, file.new) ≡ coded_outcome (layout_outcome width file.old) }
 {
     in_one(layout_file(file, width))
@@ -77,8 +74,7 @@ pub fn plain_page(file: &[u8], page: &mut [u8]) -> Answer
     render_page(Kind::Plain, file, page)
 }
 
-#[unsafe(no_mangle)]
-pub extern "C" fn hazomeny_plain(file: &[u8], page: &mut [u8]) -> u64
+pub fn hazomeny_plain(file: &[u8], page: &mut [u8]) -> u64
     ensures { (result, page.new) ≡ coded_outcome (plain_outcome file.now page.old) }
 {
     in_one(plain_page(file, page))
@@ -86,8 +82,7 @@ pub extern "C" fn hazomeny_plain(file: &[u8], page: &mut [u8]) -> u64
 
 // The plain page of a file at a width: layout and plain page in one, with the file only read. Refusals as layout's, then 10. It is for the command and for
 // `./bench`; the header and the bindings have no name for it.
-#[unsafe(no_mangle)]
-pub extern "C" fn hazomeny_print(file: &[u8], width: usize, page: &mut [u8]) -> u64
+pub fn hazomeny_print(file: &[u8], width: usize, page: &mut [u8]) -> u64
     ensures { (result, page.new) ≡ coded_outcome (print_outcome width file.now page.old) }
 {
     in_one(print_at(file, width, page))
@@ -100,8 +95,7 @@ pub fn html_body(file: &[u8], page: &mut [u8]) -> Answer
     render_page(Kind::Body, file, page)
 }
 
-#[unsafe(no_mangle)]
-pub extern "C" fn hazomeny_html_body(file: &[u8], page: &mut [u8]) -> u64
+pub fn hazomeny_html_body(file: &[u8], page: &mut [u8]) -> u64
     ensures { (result, page.new) ≡ coded_outcome (body_outcome file.now page.old) }
 {
     in_one(html_body(file, page))
@@ -114,8 +108,7 @@ pub fn html_document(file: &[u8], page: &mut [u8]) -> Answer
     render_page(Kind::Document, file, page)
 }
 
-#[unsafe(no_mangle)]
-pub extern "C" fn hazomeny_html_document(file: &[u8], page: &mut [u8]) -> u64
+pub fn hazomeny_html_document(file: &[u8], page: &mut [u8]) -> u64
     ensures { (result, page.new) ≡ coded_outcome (document_outcome file.now page.old) }
 {
     in_one(html_document(file, page))
@@ -128,8 +121,7 @@ pub fn html_body_strict(file: &[u8], page: &mut [u8]) -> Answer
     render_page(Kind::StrictBody, file, page)
 }
 
-#[unsafe(no_mangle)]
-pub extern "C" fn hazomeny_html_body_strict(file: &[u8], page: &mut [u8]) -> u64
+pub fn hazomeny_html_body_strict(file: &[u8], page: &mut [u8]) -> u64
     ensures { (result, page.new) ≡ coded_outcome (strict_body_outcome file.now page.old) }
 {
     in_one(html_body_strict(file, page))
@@ -142,8 +134,7 @@ pub fn html_document_strict(file: &[u8], page: &mut [u8]) -> Answer
     render_page(Kind::StrictDocument, file, page)
 }
 
-#[unsafe(no_mangle)]
-pub extern "C" fn hazomeny_html_document_strict(file: &[u8], page: &mut [u8]) -> u64
+pub fn hazomeny_html_document_strict(file: &[u8], page: &mut [u8]) -> u64
     ensures { (result, page.new) ≡ coded_outcome (strict_document_outcome file.now page.old) }
 {
     in_one(html_document_strict(file, page))
@@ -156,8 +147,7 @@ pub fn mask_file(file: &[u8], page: &mut [u8]) -> Answer
     mask_into(file, page)
 }
 
-#[unsafe(no_mangle)]
-pub extern "C" fn hazomeny_mask(file: &[u8], page: &mut [u8]) -> u64
+pub fn hazomeny_mask(file: &[u8], page: &mut [u8]) -> u64
     ensures { (result, page.new) ≡ coded_outcome (mask_outcome file.now page.old) }
 {
     in_one(mask_file(file, page))
@@ -171,8 +161,7 @@ pub fn check_texts(original: &[u8], mask: &[u8], place: usize) -> pairs::Answer
     check_pair(original, mask, place)
 }
 
-#[unsafe(no_mangle)]
-pub extern "C" fn hazomeny_pair(original: &[u8], mask: &[u8], place: u32) -> u64
+pub fn hazomeny_pair(original: &[u8], mask: &[u8], place: u32) -> u64
     ensures { result ≡ coded (pair_answer original.now mask.now place) }
 {
     length_in_one(check_texts(original, mask, place as usize))
@@ -203,8 +192,7 @@ fn any_step(file: &mut [u8], state: &mut [u32; 2], step: u8, style: &[u8; 18], t
 
 // One step of a writer over `file`, by numbers: `state` has how far the file is written, and the place of the innermost open field and 1, or 0. A
 // refusal changes no byte and no number.
-#[unsafe(no_mangle)]
-pub extern "C" fn hazomeny_write(
+pub fn hazomeny_write(
     file: &mut [u8],
     state: &mut [u32; 2],
     step: u8,

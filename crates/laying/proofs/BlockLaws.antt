@@ -1,24 +1,24 @@
 -- The loop over the nodes of a stretch from its first block to its last: its start, a turn and its end.
-use Rattle.rules.proofs.Basics.{◌≡◌, refl, sym, ap, subst, ◌∙◌, List, Bool, true, false, ℕ, ◌+◌, ◌-◌, ◌≤◌, ◌<◌, le_of_lt, arith, eqb, eq-eqb, length, get_or, take, drop, take-append-drop, length-take-le, ◌++◌}
+use Rattle.rules.proofs.Basics.{◌≡◌, refl, sym, ap, subst, ◌∙◌, List, Bool, false, ℕ, ◌+◌, ◌-◌, ◌≤◌, ◌<◌, arith, eqb, eq-eqb, length, get_or, take, drop, take-append-drop, length-take-le, ◌++◌}
 use Rattle.rules.specs.Bytes.{cap}
 use Rattle.rules.specs.Walk.{is_block}
 use Rattle.rules.specs.Layout.{Shape}
 use Rattle.shapes.specs.Shapes.{shape}
-use Rattle.fields.specs.Walk.{part, Is, Ends}
+use Rattle.fields.specs.Walk.{part, Ends}
 use Rattle.verify.specs.Walked.{Between}
-use Rattle.verify.proofs.RestLaws.{At, begins, rising, in_the_part, rest_part, value_part, tag_there}
-use Rattle.layout.specs.LaidIn.{Laid, flex_in}
+use Rattle.verify.proofs.RestLaws.{rising, in_the_part, rest_part, value_part, tag_there}
+use Rattle.layout.specs.LaidIn.{flex_in}
 use Rattle.layout.specs.Stretches.{Path}
 use Rattle.layout.proofs.NodeLaws.{other_tag}
 use Rattle.layout.proofs.AheadLaws.{not_either}
 use Rattle.layout.proofs.LoopLaws.{Along, along_starts, along_turn, along_ends, path_rises, later_same}
 use Rattle.rules.specs.Marks.{painted}
-use Rattle.laying.specs.Told.{bad, Fine, Wrong, Rest, Passed, Checked, Open}
+use Rattle.laying.specs.Told.{bad, Fine, Passed, Checked, Open}
 use Rattle.laying.specs.Beside.{Clear, LaidAt}
-use Rattle.laying.specs.Walks.{NodeWalked, StretchLaid, StretchWalked}
+use Rattle.laying.specs.Walks.{NodeWalked, StretchWalked}
 use Rattle.laying.proofs.Places.{laid_within, put_back}
 use Rattle.rigid.proofs.Places.{part_of_front}
-use Rattle.laying.proofs.Clears.{clear_on, clear_later, clear_in, clear_ends, clear_tag, painted_up_to, taken_long, part_long, path_same}
+use Rattle.laying.proofs.Clears.{clear_on, clear_later, clear_in, clear_ends, clear_tag, painted_up_to, part_long, path_same}
 use Rattle.laying.proofs.StretchLaws.{whole_ends}
 use Rattle.laying.proofs.Passing.{First, open_first, node_passed, node_wrong, leaf_passed, passed_none, passed_on, passed_wrong}
 

@@ -1,16 +1,14 @@
 -- The choice for a block at a place: a mark more, or none.
-use Rattle.rules.proofs.Basics.{◌≡◌, refl, sym, ap, ◌∙◌, List, false, ℕ, ◌+◌, ◌-◌, ◌<◌, ◌≤◌, le_of_lt, add-zero, arith, length, take, drop, length-drop, set, le-leb, lt-leb}
+use Rattle.rules.proofs.Basics.{◌≡◌, refl, sym, ap, ◌∙◌, List, ℕ, ◌+◌, ◌-◌, ◌<◌, ◌≤◌, add-zero, arith, take, drop, set}
 use lib.Seq.{take-set-le, drop-set-lt, drop-set-add, take-set-lt}
 use Rattle.rules.specs.Bytes.{cap}
 use Rattle.rules.specs.Layout.{Shape, Inline, Block, ◌⊕◌}
-use Rattle.shapes.specs.Shapes.{shape}
-use Rattle.fields.specs.Walk.{part, Is}
-use Rattle.layout.specs.LaidIn.{Laid, kept, decided}
+use Rattle.fields.specs.Walk.{part}
+use Rattle.layout.specs.LaidIn.{decided}
 use Rattle.layout.proofs.ChoiceLaws.{kept_indented, decided_over, decided_within}
 use Rattle.rules.specs.Marks.{painted}
 use Rattle.laying.specs.Painted.{MarkedAt}
 use Rattle.laying.specs.Told.{Fine}
-use Rattle.laying.specs.Beside.{LaidAt}
 use Rattle.laying.specs.Walks.{Indented, Decided}
 
 -- a part whose first byte is set

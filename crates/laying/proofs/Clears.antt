@@ -1,9 +1,9 @@
 -- Where no mark shows, the file with its marks is the file.
-use Rattle.rules.proofs.Basics.{◌≡◌, refl, sym, ap, subst, ◌∙◌, List, ℕ, ◌+◌, ◌-◌, ◌≤◌, ◌<◌, arith, length, get_or, take, drop, add-zero, length-take, length-drop, length-take-le, replicate, length-replicate}
+use Rattle.rules.proofs.Basics.{◌≡◌, sym, ap, subst, ◌∙◌, List, ℕ, ◌+◌, ◌-◌, ◌≤◌, ◌<◌, arith, length, get_or, take, drop, add-zero, length-take, length-drop, length-take-le, replicate, length-replicate}
 use lib.Seq.{get_or-take, get_or-drop}
 use Rattle.fields.specs.Walk.{part, span, Ends}
 use Rattle.verify.proofs.Parts.{sliced}
-use Rattle.layout.specs.Stretches.{Path, Stretched, after}
+use Rattle.layout.specs.Stretches.{Path, Stretched}
 use Rattle.layout.proofs.LoopLaws.{after_same, later_same}
 use Rattle.rules.specs.Layout.{Shape}
 use Rattle.layout.specs.LaidIn.{Ending, ahead_in}

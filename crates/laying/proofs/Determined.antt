@@ -6,7 +6,7 @@ use Rattle.rules.proofs.Chains.{no_path}
 use Rattle.verify.specs.Walked.{RestSaid, ValueSaid}
 use Rattle.rules.specs.Answers.{changed}
 use Rattle.rules.specs.Marks.{painted}
-use Rattle.laying.specs.Told.{bad, Wrong, Tells}
+use Rattle.laying.specs.Told.{bad, Tells}
 use Rattle.laying.specs.Outcomes.{FirstWalk}
 
 -- what is said of all is one result

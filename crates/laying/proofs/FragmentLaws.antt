@@ -1,12 +1,12 @@
 -- The loop over a block's fragments: its start, a turn and its end.
-use Rattle.rules.proofs.Basics.{◌≡◌, refl, sym, ap, subst, ◌∙◌, List, [], false, ℕ, ◌+◌, ◌-◌, ◌≤◌, ◌<◌, le_of_lt, arith, leb, eqb, eq-eqb, ne_eqb, length, get_or, take, drop}
+use Rattle.rules.proofs.Basics.{◌≡◌, refl, sym, ap, subst, ◌∙◌, List, [], false, ℕ, ◌+◌, ◌-◌, ◌≤◌, ◌<◌, arith, leb, eqb, eq-eqb, ne_eqb, length, get_or, take, drop}
 use lib.Seq.{slice}
 use Rattle.rules.specs.Bytes.{cap}
-use Rattle.rules.specs.Result.{Result, refused, accepted}
-use Rattle.rules.specs.Walk.{in_block, complete, allowed}
+use Rattle.rules.specs.Result.{refused}
+use Rattle.rules.specs.Walk.{in_block, complete}
 use Rattle.rules.specs.Layout.{Shape, Inline, ◌⊕◌}
 use Rattle.shapes.specs.Shapes.{shape}
-use Rattle.fields.specs.Walk.{part, Is}
+use Rattle.fields.specs.Walk.{part}
 use Rattle.fields.specs.FieldAt.{field_at}
 use Rattle.fields.specs.declared.Field.{Field}
 use Rattle.fields.proofs.Laws.{NotWhole}
@@ -14,15 +14,14 @@ use Rattle.verify.specs.Fronts.{no_field}
 use Rattle.verify.proofs.FrontLaws.{no_field_faulty}
 use Rattle.fields.proofs.Loops.{Part, starts, more, ends}
 use Rattle.verify.specs.Walked.{Between, RestSaid}
-use Rattle.verify.proofs.Parts.{up_to}
 use Rattle.verify.proofs.ValueLaws.{piece_value}
 use Rattle.verify.proofs.RestLaws.{At, begins, rising, in_the_part}
 use Rattle.verify.proofs.LoopLaws.{Come, come_first, come_on, come_short, come_wrong, come_stops, come_last, piece_next, nothing_asked, Any}
 use Rattle.layout.specs.LaidIn.{Laid, with_fragment, flex_in, fragment_in}
 use Rattle.layout.proofs.LoopLaws.{fragment_more, later_same}
 use Rattle.rules.specs.Marks.{painted}
-use Rattle.laying.specs.Told.{bad, Fine, Wrong, Tells}
-use Rattle.laying.specs.Beside.{Clear, LaidTo, LaidAt}
+use Rattle.laying.specs.Told.{bad, Fine, Wrong}
+use Rattle.laying.specs.Beside.{Clear, LaidAt}
 use Rattle.laying.specs.Walks.{fragments_from, FragmentsWalked, FragmentWalked}
 use Rattle.rules.proofs.Marked.{painted_long}
 use Rattle.laying.proofs.Places.{laid_part, laid_within, put_back, nodes_behind}

@@ -1,11 +1,9 @@
 -- A node's check and its rigid layout, as one number.
 use Rattle.rules.proofs.Basics.{◌≡◌, refl, sym, ap, subst, ◌∙◌, List, Bool, true, false, ℕ, ◌+◌, ◌-◌, ◌≤◌, ◌<◌, take, arith, false≢true, eqb, eq-eqb, ne_eqb, eqb-true}
-use lib.Seq.{slice}
 use Rattle.rules.specs.Result.{refused, accepted}
 use Rattle.rules.proofs.Chains.{no_path}
 use Rattle.rules.specs.Walk.{is_block}
 use Rattle.rules.specs.Layout.{Shape, Inline, Block}
-use Rattle.rules.specs.Bytes.{if◌then◌else◌}
 use Rattle.shapes.specs.Shapes.{shape}
 use Rattle.shapes.specs.Shapes as number
 use Rattle.fields.specs.Walk.{part}
@@ -18,7 +16,7 @@ use Rattle.rigid.specs.RigidIn.{wide, by_tag}
 use Rattle.rigid.proofs.Lines.{lacking_if_block}
 use Rattle.rigid.proofs.Runs.{plain_quick}
 use Rattle.verify.specs.Said.{verdict}
-use Rattle.verify.specs.Walked.{ValueSaid, Between, Leaf}
+use Rattle.verify.specs.Walked.{Between, Leaf}
 use Rattle.verify.specs.Glanced.{Stands}
 use Rattle.verify.proofs.Parts.{part_length}
 use Rattle.verify.proofs.TagLaws.{fragment_tags}
@@ -27,7 +25,7 @@ use Rattle.verify.proofs.ContentLaws.{calm_text, loose_text}
 use Rattle.verify.proofs.ValueLaws.{run_value, note_value, empty_value, filled_value}
 use Rattle.verify.proofs.GlanceLaws.{filled_alone}
 use Rattle.verify.proofs.SaidLaws.{faulty_said, sound_said}
-use Rattle.laying.specs.Told.{bad, Fine, Wrong, Tells, LeafSaid, LeafTold, QuickTold, NodeTold}
+use Rattle.laying.specs.Told.{bad, Fine, LeafSaid, LeafTold, QuickTold, NodeTold}
 
 pub no_block : {t : ℕ} → (t ≡ 3 → ⊥) → (t ≡ 4 → ⊥) → is_block t ≡ false
 unfolding is_block

@@ -1,5 +1,5 @@
 -- A block at a place: too deep, with a fault inside it, indented, or decided.
-use Rattle.rules.proofs.Basics.{◌≡◌, refl, sym, ap, subst, ◌∙◌, List, ℕ, ◌+◌, ◌-◌, ◌≤◌, ◌<◌, max, arith, true, false, length, get_or}
+use Rattle.rules.proofs.Basics.{◌≡◌, refl, ◌∙◌, List, ℕ, ◌+◌, ◌-◌, ◌≤◌, ◌<◌, max, arith, true, false, get_or}
 use lib.Seq.{slice}
 use Rattle.rules.specs.Result.{refused, accepted}
 use Rattle.rules.specs.Walk.{is_block}
@@ -8,10 +8,10 @@ use Rattle.shapes.specs.Shapes.{shape}
 use Rattle.fields.specs.Walk.{part}
 use Rattle.verify.specs.Walked.{Between, ValueSaid}
 use Rattle.verify.proofs.ValueLaws.{block_value, deep_value}
-use Rattle.layout.specs.LaidIn.{Laid, fragments_in, flex_in, fragment_in}
+use Rattle.layout.specs.LaidIn.{Laid, fragments_in, fragment_in}
 use Rattle.layout.proofs.NodeLaws.{tag_three, tag_four}
 use Rattle.rules.specs.Marks.{painted}
-use Rattle.laying.specs.Told.{bad, Fine, Wrong, Tells}
+use Rattle.laying.specs.Told.{bad, Fine}
 use Rattle.laying.specs.Beside.{Clear, LaidTo, LaidAt}
 use Rattle.laying.specs.Walks.{fragments_from, Decided, NodeWalked, FragmentsWalked}
 use Rattle.rules.proofs.Marked.{painted_long}

@@ -1,5 +1,5 @@
 -- The check of a fragment's nodes, some of which are passed over and checked later: what is left says, and where something is wrong.
-use Rattle.rules.proofs.Basics.{◌≡◌, refl, sym, ap, subst, ◌∙◌, List, [], ◌∷◌, ◌++◌, Bool, true, false, ℕ, zero, suc, ◌+◌, ◌≤◌, ◌<◌, arith, leb, eqb, eqb-true, get_or, take}
+use Rattle.rules.proofs.Basics.{◌≡◌, refl, sym, subst, ◌∙◌, List, [], ◌∷◌, ◌++◌, Bool, true, false, ℕ, zero, suc, ◌+◌, ◌≤◌, ◌<◌, arith, leb, eqb, eqb-true, get_or, take}
 use lib.Seq.{slice}
 use Rattle.rules.specs.Bytes.{if◌then◌else◌}
 use Rattle.rules.specs.Result.{Result, refused, accepted}
@@ -10,11 +10,10 @@ use Rattle.fields.proofs.Laws.{NotWhole}
 use Rattle.verify.specs.Said.{done}
 use Rattle.verify.specs.Fronts.{no_field}
 use Rattle.verify.specs.Walked.{value_result, ValueSaid, Between}
-use Rattle.verify.proofs.SaidLaws.{Faulty}
 use Rattle.verify.proofs.FrontLaws.{no_field_faulty}
 use Rattle.verify.proofs.RestLaws.{At, begins, rest_part, rest_none, rest_short, whole_wrong, whole_stops, whole_on}
 use Rattle.verify.proofs.LoopLaws.{node_next, nothing_asked}
-use Rattle.laying.specs.Told.{bad, Wrong, LeafSaid, Rest, Passed, Checked, Nodes, Open, Seen, NodeTold}
+use Rattle.laying.specs.Told.{bad, Wrong, Rest, Passed, Checked, Nodes, Open, Seen, NodeTold}
 
 -- ---- passed
 

@@ -1,13 +1,13 @@
 -- A part of a list that is laid out: where it stands does not matter, and it goes back to its place.
-use Rattle.rules.proofs.Basics.{◌≡◌, refl, sym, ap, ap₂, ◌∙◌, List, [], ◌∷◌, ◌++◌, ℕ, zero, suc, ◌+◌, ◌-◌, ◌≤◌, ◌<◌, arith, length, take, drop, length-take, length-drop, length-append, length-take-le, append_assoc, take-append-drop, drop-drop, take_at, drop_at}
+use Rattle.rules.proofs.Basics.{◌≡◌, sym, ap, ap₂, ◌∙◌, List, [], ◌∷◌, ◌++◌, ℕ, zero, suc, ◌+◌, ◌-◌, ◌≤◌, ◌<◌, arith, length, take, drop, length-drop, length-append, length-take-le, append_assoc, take-append-drop, drop-drop, take_at, drop_at}
 use lib.Seq.{take-append-add, drop-append-add, take-take, take-add, drop-append-le}
-use Rattle.rules.specs.Layout.{Shape, Inline}
-use Rattle.fields.specs.Walk.{span, here, rest, walk, over, part, Is}
+use Rattle.rules.specs.Layout.{Shape}
+use Rattle.fields.specs.Walk.{span, here, rest, walk, over, part}
 use Rattle.fields.proofs.Spans.{span_positive}
 use Rattle.fields.proofs.Loops.{walk_nil, walk_step}
 use Rattle.rigid.proofs.Places.{part_of_front}
 use Rattle.verify.proofs.Parts.{sliced}
-use Rattle.layout.specs.LaidIn.{Laid, ahead_in, with_node, with_fragment, fragments_in, nodes_in}
+use Rattle.layout.specs.LaidIn.{Laid, with_node, with_fragment, nodes_in}
 use Rattle.laying.specs.Beside.{LaidTo, LaidAt}
 use Rattle.laying.specs.Walks.{fragments_from}
 

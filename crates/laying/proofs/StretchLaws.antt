@@ -10,7 +10,6 @@ use Rattle.rigid.specs.RigidIn.{rigid_in, by_tag}
 use Rattle.verify.specs.Walked.{Between}
 use Rattle.verify.proofs.Parts.{up_to}
 use Rattle.verify.proofs.RestLaws.{At, begins, rising, in_the_part}
-use Rattle.layout.specs.Stretches.{Stretched}
 use Rattle.layout.proofs.AheadLaws.{Marked, Ahead, ahead_starts, flexible_marked, other_marked, by_its_tag, ahead_on, ahead_stops, ahead_ends}
 use Rattle.laying.specs.Told.{bad, Wrong, Rest, Checked, NodeTold, StretchTold}
 use Rattle.rigid.proofs.Places.{part_of_front}

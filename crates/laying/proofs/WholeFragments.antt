@@ -1,18 +1,15 @@
 -- The loop over a fragment's stretches: its start, a turn and its end.
-use Rattle.rules.proofs.Basics.{◌≡◌, refl, sym, ap, subst, ◌∙◌, List, [], ℕ, ◌+◌, ◌-◌, ◌≤◌, ◌<◌, arith, length, take, drop, length-take-le}
-use lib.Seq.{slice}
+use Rattle.rules.proofs.Basics.{◌≡◌, refl, sym, ap, ◌∙◌, List, [], ℕ, ◌+◌, ◌-◌, ◌≤◌, ◌<◌, arith, length, take, drop, length-take-le}
 use Rattle.rules.specs.Bytes.{cap}
-use Rattle.rules.specs.Walk.{in_fragment}
 use Rattle.rules.specs.Layout.{Shape, Inline}
 use Rattle.shapes.specs.Shapes.{shape}
-use Rattle.fields.specs.Walk.{Is}
-use Rattle.verify.specs.Walked.{Between, RestSaid}
-use Rattle.layout.specs.LaidIn.{Laid, behind_in, flex_in, fragment_in}
-use Rattle.layout.specs.Stretches.{Path, Stretched}
+use Rattle.verify.specs.Walked.{Between}
+use Rattle.layout.specs.LaidIn.{behind_in, flex_in, fragment_in}
+use Rattle.layout.specs.Stretches.{Stretched}
 use Rattle.layout.proofs.LoopLaws.{Begun, begun_starts, stretch_turn, begun_ends, path_rises, later_same}
 use Rattle.rules.specs.Marks.{painted}
-use Rattle.laying.specs.Told.{bad, Fine, Wrong, Tells, Rest, Passed, Seen, StretchTold}
-use Rattle.laying.specs.Beside.{Clear, LaidTo}
+use Rattle.laying.specs.Told.{bad, Fine, Wrong, Rest, Passed, StretchTold}
+use Rattle.laying.specs.Beside.{Clear}
 use Rattle.laying.specs.Walks.{StretchWalked, FragmentWalked}
 use Rattle.rules.proofs.Marked.{painted_long}
 use Rattle.laying.proofs.Places.{stays_behind}

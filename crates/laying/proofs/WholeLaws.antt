@@ -1,6 +1,6 @@
 -- Layout of a whole file: what is refused, and what an accepted file becomes.
 use Rattle.rules.proofs.Basics.{◌≡◌, refl, sym, ap, ◌∙◌, List, [], false, ℕ, ◌*◌, ◌≤◌, arith, length, take, le-leb, take_all}
-use lib.Seq.{slice, take-length}
+use lib.Seq.{slice}
 use Rattle.rules.specs.Limits.{most_bytes, most_columns}
 use Rattle.rules.specs.Bytes.{newline}
 use Rattle.rules.specs.declared.Answer.TheVariants.{Done}
@@ -8,7 +8,7 @@ use Rattle.rules.specs.Result.{Result, refused, accepted, ◌>>=◌, ◌>>◌, n
 use Rattle.rules.specs.Walk.{in_fragment}
 use Rattle.rules.specs.Tree.{Frag}
 use Rattle.rules.specs.Encode.{encode}
-use Rattle.rules.specs.Layout.{Shape, layout}
+use Rattle.rules.specs.Layout.{layout}
 use Rattle.rules.specs.Good.{Bytes}
 use Rattle.rules.specs.Answers.{tree, check_answer, check_answer_by, changed, left_laid, layout_outcome, layout_outcome_by, laid_out_by}
 use Rattle.rules.proofs.Chains.{no_path}
@@ -21,7 +21,7 @@ use Rattle.layout.specs.LaidIn.{Laid, fragment_in}
 use Rattle.layout.proofs.OfTrees.{laid_tree}
 use Rattle.rules.specs.Marks.{painted}
 use Rattle.laying.specs.Painted.{ShownAll}
-use Rattle.laying.specs.Told.{bad, Wrong}
+use Rattle.laying.specs.Told.{Wrong}
 use Rattle.laying.specs.Walks.{FragmentWalked}
 use Rattle.laying.specs.Beside.{Clear}
 use Rattle.laying.specs.Outcomes.{Refuses, FirstWalk}

@@ -1,5 +1,5 @@
 -- What a number of the first walk says: a layout where a part of the file is accepted, and one number where it is not.
-use Rattle.std.specs.Prelude.{◌≡◌, List, [], ◌∷◌, true, false, ℕ, zero, suc, ◌+◌, ◌-◌, ◌<◌, ◌≤◌, length, take}
+use Rattle.std.specs.Prelude.{◌≡◌, List, true, false, ℕ, zero, suc, ◌+◌, ◌≤◌, take}
 use Rattle.std.proofs.Math.Seq.{slice}
 use Rattle.rules.specs.Result.{Result, accepted}
 use Rattle.rules.specs.Walk.{in_fragment, allowed, is_block}

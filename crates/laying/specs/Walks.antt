@@ -1,5 +1,5 @@
 -- What the functions of the first walk answer: the marks ws become ws', and r is a layout, or says that something is wrong.
-use Rattle.std.specs.Prelude.{◌≡◌, List, [], true, false, ℕ, ◌+◌, ◌-◌, ◌≤◌, ◌<◌, length, get_or, take, drop}
+use Rattle.std.specs.Prelude.{◌≡◌, List, [], false, ℕ, ◌+◌, ◌-◌, ◌≤◌, ◌<◌, length, get_or, take, drop}
 use Rattle.std.proofs.Math.Seq.{slice}
 use Rattle.rules.specs.Layout.{Shape, Inline}
 use Rattle.rules.specs.Walk.{in_fragment, in_block}
@@ -9,7 +9,7 @@ use Rattle.verify.specs.Walked.{RestSaid, ValueSaid}
 use Rattle.layout.specs.LaidIn.{Laid, with_fragment, kept, decided, flex_in, fragment_in}
 use Rattle.layout.specs.Stretches.{Onwards}
 use Rattle.rules.specs.Marks.{painted}
-use Rattle.laying.specs.Told.{bad, Fine, Wrong, Tells, Rest, Passed}
+use Rattle.laying.specs.Told.{bad, Wrong, Tells, Rest, Passed}
 use Rattle.laying.specs.Beside.{LaidTo, LaidAt}
 
 -- the block at `at` does not fit; its fragments had n changes

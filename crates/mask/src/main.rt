@@ -2,12 +2,13 @@
 
 #![tactic(auto)]
 
-use libc::STDIN_FILENO;
+use intake::read_full;
 use printing::{FILE, print_mask};
+use std::io;
 
-fn main() {
+fn main(rt: HostRuntime) -> io::Result<()> {
     let mut file = [0u8; FILE];
     let mut page = [0u8; FILE];
-    let n = io::read_full(STDIN_FILENO, &mut file);
-    print_mask(&file[..n], &mut page);
+    let n = read_full(&mut rt.stdin(), &mut file)?;
+    print_mask(&rt, &file[..n], &mut page)
 }

@@ -2,12 +2,13 @@
 
 #![tactic(auto)]
 
-use libc::STDIN_FILENO;
+use intake::read_full;
 use printing::{INPUT, print_plain};
+use std::io;
 
-fn main() {
+fn main(rt: HostRuntime) -> io::Result<()> {
     let mut input = [0u8; INPUT];
     let mut page = [0u8; 65536];
-    let n = io::read_full(STDIN_FILENO, &mut input);
-    print_plain(&input[..n], &mut page);
+    let n = read_full(&mut rt.stdin(), &mut input)?;
+    print_plain(&rt, &input[..n], &mut page)
 }

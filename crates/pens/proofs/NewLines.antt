@@ -1,5 +1,5 @@
 -- A new line, and a part on it.
-use Rattle.rules.proofs.Basics.{◌≡◌, refl, ap, List, [], ◌∷◌, none, ℕ, ◌-◌, ◌*◌, ◌%◌, ◌<◌, arith, le-ltb, length, replicate}
+use Rattle.rules.proofs.Basics.{◌≡◌, ap, List, [], ◌∷◌, none, ℕ, ◌-◌, ◌*◌, ◌%◌, ◌<◌, arith, le-ltb, length, replicate}
 use Rattle.rules.specs.Lines.{Machine, empty, release, making, step, run, after}
 use Rattle.writing.specs.Written.{Written}
 use Rattle.lines.specs.declared.LineOp.TheVariants as Op

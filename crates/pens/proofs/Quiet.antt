@@ -1,6 +1,6 @@
 -- A line with text on a plain page, where no break waits: of an operation nothing shows but its own bytes.
 use Rattle.rules.proofs.Basics.{◌≡◌, refl, sym, ap, ◌∙◌, List, [], ◌∷◌, append-nil, true, none, ℕ, ◌/◌, ◌%◌, arith, eqb, eqb→eq}
-use Rattle.rules.specs.Lines.{LineOp, part, mark, Machine, has_text, Item, release, spacing, item, step, run, after}
+use Rattle.rules.specs.Lines.{LineOp, part, Machine, has_text, Item, release, spacing, item, step, run, after}
 use Rattle.writing.specs.Written.{Written}
 use Rattle.writing.proofs.Laws as writing
 use Rattle.lines.specs.declared.LineOp as O

@@ -1,5 +1,5 @@
 -- A plan that is carried out at once is the step: a piece alone, a field opened, a field closed.
-use Rattle.rules.proofs.Basics.{◌≡◌, refl, sym, ap, ◌∙◌, List, [], ◌∷◌, ◌++◌, ℕ, zero, suc, ◌+◌, ◌≤◌, ◌<◌, arith, Bool, true, not, length, lt-leb, add-one, ◌*◌}
+use Rattle.rules.proofs.Basics.{◌≡◌, refl, sym, ap, ◌∙◌, List, [], ◌∷◌, ◌++◌, ℕ, zero, suc, ◌+◌, ◌≤◌, ◌<◌, arith, Bool, true, length, lt-leb, add-one, ◌*◌}
 use Rattle.rules.specs.Limits.{most_bytes, most_blocks}
 use Rattle.rules.specs.Encode.{field}
 use Rattle.rules.specs.Result.{Check, ◌or_refuse◌, accepted}

@@ -21,7 +21,7 @@ use Rattle.scribe.specs.InC.{flag, style_in}
 use Rattle.scribe.proofs.StyleLaws.{as_text, run_text, run_length}
 use Rattle.scribe.proofs.BadLaws.{good_fault, no_style_fault}
 use Rattle.scribe.proofs.CheckLaws.{style_numbered, fault_then, sound_text, sound_name}
-use Rattle.quick.specs.Quick.{PutsText, ColourAlone, done}
+use Rattle.quick.specs.Quick.{PutsText, ColourAlone}
 use Rattle.quick.proofs.PlanDone.{put_so}
 
 -- ---- tests

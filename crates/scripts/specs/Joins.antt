@@ -2,7 +2,7 @@
 -- other, so that a join's nodes stand in the fragment around it; here `r` is what follows them there.
 use Rattle.std.specs.Prelude.{List, [], ◌∷◌, ℕ}
 use Rattle.std.proofs.Math.Option.{none}
-use Rattle.rules.specs.Tree.{Run, Leaf, text, space, if_block, Frag, stop, leaf, block, Frags, none_left, frag, flexible}
+use Rattle.rules.specs.Tree.{Run, text, space, if_block, Frag, stop, leaf, block, Frags, none_left, frag, flexible}
 
 -- the nodes of one fragment, then those of another
 infixr 25 ◌⧺◌

@@ -5,7 +5,7 @@ use Rattle.rules.specs.Limits.{most_bytes, most_blocks}
 use Rattle.rules.specs.Result.{Result, refused, accepted, ◌>>=◌, ◌>>◌, need, Check, ◌or_refuse◌, sound}
 use Rattle.rules.specs.Walk.{Fields, end, bytes, inside, in_styles, content, text_content, anchor_content, complete, tags}
 use Rattle.rules.specs.Tree.{Run, Leaf, text, anchor, space, force, if_block, Kind}
-use Rattle.scripts.specs.Script.{Join, spaced, commas, Nodes, no_nodes, node, lone, blocked, spaced_join, comma_join, Header, given, written, Entries, no_entries, entry, Around, root, in_block, in_join, Open, in_fragment, in_anchor, between, begun, start, depth}
+use Rattle.scripts.specs.Script.{Join, spaced, commas, Nodes, no_nodes, node, lone, blocked, spaced_join, comma_join, Header, given, written, Entries, no_entries, entry, Around, root, in_block, in_join, Open, in_fragment, in_anchor, between, begun, depth}
 use Rattle.scripts.specs.Shown.{shown}
 
 pub data Step : Type 0 where

@@ -3,42 +3,37 @@
 #![tactic(auto)]
 
 use answers::told;
-use libc::STDOUT_FILENO;
 use rules::{Answer, Refusal};
+use std::io;
 
 // `refused N at P`, with no line end.
-pub fn tell_refusal(r: Refusal) {
+pub fn tell_refusal(rt: &impl Print, r: Refusal) -> io::Result<()> {
     let t = told(r);
-    io::write_all(STDOUT_FILENO, b"refused ");
-    io::print_decimal(STDOUT_FILENO, t.number);
-    io::write_all(STDOUT_FILENO, b" at ");
-    io::print_decimal(STDOUT_FILENO, t.place as u64);
+    print!(rt; "refused {} at {}", t.number, t.place)
 }
 
 // `accepted N`, or the refusal, with no line end.
-pub fn tell(answer: Answer) {
+pub fn tell(rt: &impl Print, answer: Answer) -> io::Result<()> {
     match answer {
-        Answer::Done(n) => {
-            io::write_all(STDOUT_FILENO, b"accepted ");
-            io::print_decimal(STDOUT_FILENO, n as u64);
-        }
-        Answer::Refused(r) => tell_refusal(r),
+        Answer::Done(n) => print!(rt; "accepted {n}"),
+        Answer::Refused(r) => tell_refusal(rt, r),
     }
 }
 
 // The bytes in hex after a space; of no bytes, nothing.
-pub fn tell_bytes(s: &[u8]) {
+pub fn tell_bytes(rt: &impl Print, s: &[u8]) -> io::Result<()> {
     if s.len() == 0 {
-        return;
+        return Ok(());
     }
-    io::write_all(STDOUT_FILENO, b" ");
+    print!(rt; " ")?;
     let mut at = 0;
     while at < s.len() {
-        io::print_hex(STDOUT_FILENO, s[at] as u64, 2);
+        print!(rt; "{:02x}", s[at])?;
         at += 1;
     }
+    Ok(())
 }
 
-pub fn end_line() {
-    io::write_all(STDOUT_FILENO, b"\n");
+pub fn end_line(rt: &impl Print) -> io::Result<()> {
+    println!(rt; "")
 }

@@ -1,6 +1,5 @@
 -- `looks::calm_eight` meets its contract. The loop's invariant: where nothing odd was found, the bytes behind are calm.
-use Rattle.rules.proofs.Basics.{refl, ⊎_elim, ◌-◌, arith}
-use Rattle.looks.proofs.Windows.{none_looked, one_found, none_found, looked_at}
+use Rattle.looks.proofs.Windows.{none_looked, looked_at}
 use Rattle.looks.proofs.calm_eight.Goals as goal
 
 pub loop-k-init : goal.loop-k-init

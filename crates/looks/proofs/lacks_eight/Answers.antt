@@ -1,6 +1,5 @@
 -- `looks::lacks_eight` meets its contract. The loop's invariant: where nothing was found, the bytes behind lack the one asked for.
-use Rattle.rules.proofs.Basics.{⊎_elim, ◌-◌, arith}
-use Rattle.looks.proofs.Lacking.{none_sought, is_there, not_there, all_sought}
+use Rattle.looks.proofs.Lacking.{none_sought, all_sought}
 use Rattle.looks.proofs.lacks_eight.Goals as goal
 
 pub loop-i-init : goal.loop-i-init

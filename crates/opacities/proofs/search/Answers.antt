@@ -1,5 +1,5 @@
 -- `opacities::search` meets its contract. The loop's invariant: the rule's search goes on at the places that are next.
-use Rattle.rules.proofs.Basics.{sym, ap, ◌∙◌, ◌-◌, arith}
+use Rattle.rules.proofs.Basics.{sym, ap, ◌∙◌, arith}
 use Rattle.digits.specs.Said.{decimal_of}
 use Rattle.opacities.specs.Picked.{said}
 use Rattle.opacities.proofs.Turns.{start, power_le, stop, below_ten, further}

@@ -22,6 +22,4 @@ pub returns-in-7 : goal.returns-in-7
 returns-in-7 c = unfold by_tag in rw c.in-7.is c.if_block_layout.ensures
 
 pub returns-in_default : goal.returns-in_default
-returns-in_default c =
-    let r = c.in_default.in_default-own.rest in
-    other_tag _ r.0.0.0.0.0.1 r.0.0.0.0.1 r.0.0.0.1 r.0.0.1 r.0.1 r.1 c.inline-in_default.ensures
+returns-in_default c = other_tag _ (search) (search) (search) (search) (search) (search) c.inline-in_default.ensures

@@ -6,7 +6,6 @@ use Rattle.sizes.proofs.Entries.{same, test, tested}
 use Rattle.sizes.proofs.Placing.{passed}
 use Rattle.sizes.proofs.em.Goals as goal
 
-
 -- the test is computed here, on the table as it stands in the code
 
 pub entry-requires : goal.entry-requires

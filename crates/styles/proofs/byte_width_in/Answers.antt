@@ -1,5 +1,5 @@
 -- `styles::byte_width_in` meets its contract. The loop's invariant: the width so far is that of the style so far.
-use Rattle.rules.proofs.Basics.{◌-◌, arith}
+use Rattle.rules.proofs.Basics.{arith}
 use Rattle.fields.proofs.Laws.{whole_inside, rises, ends}
 use Rattle.styles.proofs.Widths.{measured_start, measured_next, measured_stopped, measured_ended}
 use Rattle.styles.proofs.byte_width_in.Goals as goal

@@ -1,5 +1,5 @@
 -- `styles::read_styles` meets its contract. The loop's invariant: the style so far, with the fields from the place on, makes the style of all.
-use Rattle.rules.proofs.Basics.{◌∙◌, ◌-◌, arith}
+use Rattle.rules.proofs.Basics.{◌∙◌, arith}
 use Rattle.styles.proofs.Reading.{all_left, next_left, stopped, ended, alone_read}
 use Rattle.fields.proofs.Laws.{whole_inside, rises, ends}
 use Rattle.styles.proofs.read_styles.Goals as goal

@@ -1,7 +1,7 @@
 -- `styles::with_size` meets its contract: another length, or a size that is not allowed, is passed over; one byte is the value.
 use mir.Syntax.{w8}
 use mir.ValLaws.{to_z-of_z}
-use Rattle.rules.proofs.Basics.{refl, eq-eqb, ne_eqb, rules}
+use Rattle.rules.proofs.Basics.{refl, eq-eqb, ne_eqb}
 use Rattle.styles.specs.Said.{said_styles, flagged}
 use Rattle.styles.specs.StylesIn.{right_value, put_part}
 use Rattle.rules.specs.Walk.{right_length}

@@ -1,5 +1,5 @@
 -- `styles::with_thickness` meets its contract: another length is passed over, and one byte is the value.
-use Rattle.rules.proofs.Basics.{eq-eqb, ne_eqb, rules}
+use Rattle.rules.proofs.Basics.{eq-eqb, ne_eqb}
 use Rattle.styles.specs.Said.{said_styles, flagged}
 use Rattle.styles.specs.StylesIn.{right_value, put_part}
 use Rattle.rules.specs.Walk.{right_length}

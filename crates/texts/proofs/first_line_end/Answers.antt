@@ -1,5 +1,4 @@
 -- `texts::first_line_end` meets its contract. The loop's invariant: the bytes passed have no newline.
-use Rattle.rules.proofs.Basics.{◌-◌}
 use Rattle.texts.proofs.Passing.{found, passed, none_found}
 use Rattle.texts.proofs.first_line_end.Goals as goal
 

@@ -1,5 +1,5 @@
 -- `texts::has_newline` meets its contract. The loop's invariant: a newline is among the bytes exactly if one was found or is still ahead.
-use Rattle.rules.proofs.Basics.{⊎_elim, ◌-◌, arith}
+use Rattle.rules.proofs.Basics.{arith}
 use Rattle.texts.proofs.Chunks.{none_looked, there, not_there, all_looked}
 use Rattle.texts.proofs.has_newline.Goals as goal
 use Rattle.texts.proofs.has_newline.Goals.{else-v-i-eq10, then-v-i-eq10}

@@ -1,5 +1,4 @@
 -- `texts::skip` meets its contract. The loop's invariant: the chunks passed have no newline.
-use Rattle.rules.proofs.Basics.{◌-◌}
 use Rattle.texts.proofs.Chunks.{none_passed, chunk_passed}
 use Rattle.texts.proofs.skip.Goals as goal
 

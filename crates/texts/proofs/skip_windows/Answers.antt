@@ -1,5 +1,4 @@
 -- `texts::skip_windows` meets its contract. The loop's invariant: the windows passed have no newline.
-use Rattle.rules.proofs.Basics.{◌-◌}
 use Rattle.texts.proofs.Chunks.{chunk_passed}
 use Rattle.texts.proofs.skip_windows.Goals as goal
 

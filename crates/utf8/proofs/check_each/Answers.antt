@@ -1,6 +1,6 @@
 -- `utf8::check_each` meets its contract. The loop's invariant: the bytes from i on are right after what is still wanted exactly if the
 -- whole is UTF-8.
-use Rattle.rules.proofs.Basics.{refl, ◌-◌, rules}
+use Rattle.rules.proofs.Basics.{refl, rules}
 use Rattle.rules.specs.Utf8.{utf8}
 use Rattle.utf8.specs.Owing.{ranges}
 use Rattle.utf8.proofs.Turns.{never, goes_on, whole, cut}

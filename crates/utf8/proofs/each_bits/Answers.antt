@@ -1,5 +1,5 @@
 -- `utf8::each_bits` meets its contract. The loop's invariant: the bits so far, with those of the bytes from i on, are all.
-use Rattle.rules.proofs.Basics.{refl, ◌-◌, rules}
+use Rattle.rules.proofs.Basics.{refl, rules}
 use Rattle.utf8.specs.AllBits.{all_bits}
 use Rattle.utf8.proofs.Ascii.{one_or, all_or}
 use Rattle.utf8.proofs.each_bits.Goals as goal

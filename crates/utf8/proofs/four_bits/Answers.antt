@@ -1,5 +1,5 @@
 -- `utf8::four_bits` meets its contract. The loop's invariant: of each part the bits so far, with those of the bytes from i on, are all.
-use Rattle.rules.proofs.Basics.{◌-◌, arith, rules}
+use Rattle.rules.proofs.Basics.{arith, rules}
 use Rattle.utf8.proofs.FourParts.{none_or, next_or, whole_or}
 use Rattle.utf8.proofs.four_bits.Goals as goal
 

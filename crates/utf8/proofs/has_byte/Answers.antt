@@ -1,5 +1,5 @@
 -- `utf8::has_byte` meets its contract. The loop's invariant: the bytes from i on have b exactly if the whole has.
-use Rattle.rules.proofs.Basics.{refl, ◌-◌, rules}
+use Rattle.rules.proofs.Basics.{refl, rules}
 use Rattle.utf8.proofs.Turns.{found, passed, not_there}
 use Rattle.utf8.proofs.has_byte.Goals as goal
 

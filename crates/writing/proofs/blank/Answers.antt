@@ -1,5 +1,5 @@
 -- `writing::blank` meets its contract. The loop's invariant: i spaces are written.
-use Rattle.rules.proofs.Basics.{refl, ◌-◌, ◌<◌, length, length-replicate, get_or-replicate, rules}
+use Rattle.rules.proofs.Basics.{refl, ◌<◌, length, length-replicate, get_or-replicate, rules}
 use Rattle.writing.proofs.Copies.{none_copied, one_more, all_copied}
 use Rattle.writing.proofs.blank.Goals as goal
 

@@ -1,5 +1,5 @@
 -- `writing::copy` meets its contract. The loop's invariant: the first i bytes are copied.
-use Rattle.rules.proofs.Basics.{refl, ◌-◌}
+use Rattle.rules.proofs.Basics.{refl}
 use Rattle.writing.proofs.Copies.{none_copied, one_more, all_copied}
 use Rattle.writing.proofs.copy.Goals as goal
 

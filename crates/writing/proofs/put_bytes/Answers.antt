@@ -1,6 +1,5 @@
 -- `writing::put_bytes` meets its contract: what fits is copied, and the position moves by the whole length.
-use Rattle.rules.proofs.Basics.{refl, sym, ⊎_elim, arith, length-take, length-drop, length-take-le}
-use Rattle.writing.proofs.Laws.{kept}
+use Rattle.rules.proofs.Basics.{refl, sym, arith, length-take, length-drop, length-take-le}
 use Rattle.writing.proofs.Parts.{all_fits, some_fits, past_the_end}
 use Rattle.writing.proofs.put_bytes.Goals as goal
 use Rattle.writing.proofs.put_bytes.Goals.{else-at-page, then-at-page+else-s-room}

@@ -1,6 +1,5 @@
 -- `writing::put_spaces` meets its contract: the spaces that fit are written, and the position moves by them all.
-use Rattle.rules.proofs.Basics.{⊎_elim, arith, length-replicate}
-use Rattle.writing.proofs.Laws.{kept}
+use Rattle.rules.proofs.Basics.{arith, length-replicate}
 use Rattle.writing.proofs.Parts.{all_spaces_fit, some_spaces_fit, past_the_end}
 use Rattle.writing.proofs.put_spaces.Goals as goal
 use Rattle.writing.proofs.put_spaces.Goals.{else-at-page, then-at-page+else-n-room}

@@ -1,5 +1,5 @@
 -- `escaping::escapes::copy_plain` meets its contract. The loop's invariant: whatever the windows began goes on to n bytes.
-use Rattle.rules.proofs.Basics.{◌-◌, arith}
+use Rattle.rules.proofs.Basics.{arith}
 use Rattle.escaping.proofs.RunLaws.{byte_copied, begun_kept}
 use Rattle.escaping.proofs.escapes.copy_plain.Goals as goal
 

@@ -1,5 +1,5 @@
 -- `escaping::escapes::copy_windows` meets its contract. The loop's invariant: n bytes are copied.
-use Rattle.rules.proofs.Basics.{◌-◌, arith}
+use Rattle.rules.proofs.Basics.{arith}
 use Rattle.escaping.proofs.RunLaws.{none_begun, window_copied, begun_kept}
 use Rattle.escaping.proofs.escapes.copy_windows.Goals as goal
 

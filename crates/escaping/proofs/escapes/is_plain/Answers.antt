@@ -1,5 +1,5 @@
 -- `escaping::escapes::is_plain` meets its contract. The loop's invariant: where nothing was found, the bytes looked at are plain.
-use Rattle.rules.proofs.Basics.{◌-◌, arith, ⊎_elim}
+use Rattle.rules.proofs.Basics.{arith}
 use Rattle.escaping.proofs.RunLaws.{none_looked, one_found, none_found, looked_at}
 use Rattle.escaping.proofs.escapes.is_plain.Goals as goal
 use Rattle.escaping.proofs.escapes.is_plain.Goals.{else-is_escaped, then-is_escaped}

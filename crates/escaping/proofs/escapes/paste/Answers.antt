@@ -1,5 +1,5 @@
 -- `escaping::escapes::paste` meets its contract. The loop's invariant: the first k bytes are on the page.
-use Rattle.rules.proofs.Basics.{◌-◌, arith}
+use Rattle.rules.proofs.Basics.{arith}
 use Rattle.writing.proofs.Laws.{kept}
 use Rattle.escaping.proofs.RunLaws.{none_pasted, one_pasted, all_pasted}
 use Rattle.escaping.proofs.escapes.paste.Goals as goal

@@ -1,5 +1,5 @@
 -- `escaping::escapes::plain_end` meets its contract. The loop's invariant: none of n bytes is escaped.
-use Rattle.rules.proofs.Basics.{◌-◌, arith}
+use Rattle.rules.proofs.Basics.{arith}
 use Rattle.escaping.proofs.RunLaws.{byte_counted}
 use Rattle.escaping.proofs.escapes.plain_end.Goals as goal
 

@@ -1,5 +1,5 @@
 -- `escaping::escapes::plain_windows` meets its contract. The loop's invariant: none of n bytes is escaped.
-use Rattle.rules.proofs.Basics.{◌-◌, arith}
+use Rattle.rules.proofs.Basics.{arith}
 use Rattle.escaping.proofs.RunLaws.{none_counted, window_counted}
 use Rattle.escaping.proofs.escapes.plain_windows.Goals as goal
 

@@ -1,5 +1,5 @@
 -- `escaping::escapes::put_escaped` meets its contract. The loop's invariant: the first i bytes of the text are written.
-use Rattle.rules.proofs.Basics.{◌-◌, arith}
+use Rattle.rules.proofs.Basics.{arith}
 use Rattle.writing.proofs.Laws.{kept}
 use Rattle.escaping.proofs.RunLaws.{none_so, in_text, position_fits, last_run, past_run, all_so}
 use Rattle.escaping.proofs.escapes.put_escaped.Goals as goal

@@ -1,5 +1,5 @@
 -- `escaping::escapes::window` meets its contract. The loop's invariant: the first k bytes are copied.
-use Rattle.rules.proofs.Basics.{refl, ◌-◌}
+use Rattle.rules.proofs.Basics.{refl}
 use Rattle.writing.proofs.Copies.{none_copied, one_more, all_copied}
 use Rattle.escaping.proofs.escapes.window.Goals as goal
 

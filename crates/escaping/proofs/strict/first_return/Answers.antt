@@ -1,5 +1,5 @@
 -- `escaping::strict::first_return` meets its contract. The loop's invariant: none of n bytes is a CR.
-use Rattle.rules.proofs.Basics.{◌-◌, arith}
+use Rattle.rules.proofs.Basics.{arith}
 use Rattle.escaping.proofs.ReturnLaws.{byte_counted, return_next, end_next}
 use Rattle.escaping.proofs.strict.first_return.Goals as goal
 

@@ -1,5 +1,5 @@
 -- `escaping::strict::put_strict` meets its contract. The loop's invariant: the first i bytes of the text are written.
-use Rattle.rules.proofs.Basics.{◌-◌, arith}
+use Rattle.rules.proofs.Basics.{arith}
 use Rattle.writing.proofs.Laws.{kept}
 use Rattle.escaping.proofs.ReturnLaws.{none_so, in_text, last_part, past_part, all_so}
 use Rattle.escaping.proofs.strict.put_strict.Goals as goal

@@ -1,5 +1,5 @@
 -- `escaping::strict::skip_windows` meets its contract. The loop's invariant: none of n bytes is a CR.
-use Rattle.rules.proofs.Basics.{◌-◌, arith}
+use Rattle.rules.proofs.Basics.{arith}
 use Rattle.escaping.proofs.ReturnLaws.{none_counted, window_counted}
 use Rattle.escaping.proofs.strict.skip_windows.Goals as goal
 

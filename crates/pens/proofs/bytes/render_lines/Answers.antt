@@ -1,5 +1,5 @@
 -- `pens::bytes::render_lines` meets its contract: a loop over the lines, whose invariant is `LinesDone`.
-use Rattle.rules.proofs.Basics.{◌-◌, arith}
+use Rattle.rules.proofs.Basics.{arith}
 use Rattle.pens.proofs.Running.{kept}
 use Rattle.pens.proofs.NewLines.{fresh}
 use Rattle.pens.proofs.TextLines.{next_within, lines_start, lines_more, lines_end}

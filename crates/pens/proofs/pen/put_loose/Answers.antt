@@ -1,5 +1,4 @@
 -- `pens::pen::put_loose` meets its contract: a part escaped, or the tags of a mark.
-use Rattle.rules.proofs.Basics.{⊎_elim, arith}
 use Rattle.lines.specs.Said.{own, copies}
 use Rattle.pens.specs.Ran.{shown}
 use Rattle.pens.proofs.pen.put_loose.Goals as goal

@@ -1,5 +1,4 @@
 -- `pens::pen::put_plain` meets its contract: a part's bytes, and of any other operation nothing.
-use Rattle.rules.proofs.Basics.{⊎_elim, arith}
 use Rattle.lines.specs.Said.{own}
 use Rattle.pens.proofs.Pens.{shown_copies, shows_nothing}
 use Rattle.pens.proofs.pen.put_plain.Goals as goal

@@ -1,5 +1,4 @@
 -- `pens::pen::put_strictly` meets its contract: a part escaped strictly, or the tags of a mark.
-use Rattle.rules.proofs.Basics.{⊎_elim, arith}
 use Rattle.lines.specs.Said.{own, copies}
 use Rattle.pens.specs.Ran.{shown}
 use Rattle.pens.proofs.Pens.{strict_tags}

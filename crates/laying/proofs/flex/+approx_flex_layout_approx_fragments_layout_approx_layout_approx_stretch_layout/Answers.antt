@@ -1,0 +1,218 @@
+-- `approx_flex_layout`, `approx_fragments_layout`, `approx_layout` and `approx_stretch_layout` meet their contracts.
+use Rattle.rules.proofs.Basics.{sym, arith, refl, ◌∙◌}
+use Rattle.verify.proofs.Parts.{part_anywhere}
+use Rattle.verify.proofs.RestLaws.{field_there, begins, rising, in_the_part, value_part}
+use Rattle.laying.proofs.LeafLaws.{other_four}
+use Rattle.laying.proofs.Clears.{clear_later}
+use Rattle.laying.proofs.NodeLaws.{node_deep, node_inside, node_three, node_four}
+use Rattle.laying.proofs.FragmentLaws.{fragments_start, fragments_short, fragments_tag, fragment_wrong, fragment_turn, fragments_end}
+use Rattle.laying.proofs.BlockLaws.{blocks_start, blocks_inside, next_less, leaf_turn, next_value, block_wrong, block_turn, blocks_end}
+use Rattle.laying.proofs.WholeFragments.{nodes_start, nodes_wrong, blocks_clear, blocks_part, stretch_wrong, stretch_less, stretch_on, nodes_end}
+use Rattle.laying.proofs.flex.+approx_flex_layout_approx_fragments_layout_approx_layout_approx_stretch_layout.Goals as goal
+
+pub approx_flex_layout-returns-then-depth-ge-MOST_BLOCKS : goal.approx_flex_layout-returns-then-depth-ge-MOST_BLOCKS
+approx_flex_layout-returns-then-depth-ge-MOST_BLOCKS t c =
+    let C = c.requires.0 in
+    let P = c.requires.1.0 in
+    let k = c.requires.1.1 in
+    node_deep C P k c.if-depth-ge-MOST_BLOCKS.true
+
+pub approx_flex_layout-approx_fragments_layout-l-requires : goal.approx_flex_layout-approx_fragments_layout-l-requires
+approx_flex_layout-approx_fragments_layout-l-requires t c =
+    let C = c.requires.0 in
+    let P = c.requires.1.0 in
+    (omega (arith, c.decreases, c.if-depth-ge-MOST_BLOCKS.false), (clear_later C (omega arith), part_anywhere P))
+
+pub approx_flex_layout-returns-then-l-eq-BAD : goal.approx_flex_layout-returns-then-l-eq-BAD
+approx_flex_layout-returns-then-l-eq-BAD t c =
+    let C = c.requires.0 in
+    let P = c.requires.1.0 in
+    let k = c.requires.1.1 in
+    node_inside C P k c.if-depth-ge-MOST_BLOCKS.false c.approx_fragments_layout-l.ensures c.if-l-eq-BAD.true
+
+pub approx_flex_layout-returns-then-s-at-eq3 : goal.approx_flex_layout-returns-then-s-at-eq3
+approx_flex_layout-returns-then-s-at-eq3 t c =
+    let C = c.requires.0 in
+    let P = c.requires.1.0 in
+    let k = c.requires.1.1 in
+    node_three C P k c.if-depth-ge-MOST_BLOCKS.false c.approx_fragments_layout-l.ensures c.if-l-eq-BAD.false c.if-s-at-eq3.true
+    c.saturating_sub-block.ensures refl c.block_or_mixed.ensures c.append.ensures c.told.ensures
+
+pub approx_flex_layout-approx_fragments_layout-l-requires-2 : goal.approx_flex_layout-approx_fragments_layout-l-requires-2
+approx_flex_layout-approx_fragments_layout-l-requires-2 t c =
+    let C = c.requires.0 in
+    let P = c.requires.1.0 in
+    (omega (arith, c.decreases, c.if-depth-ge-MOST_BLOCKS.false), (clear_later C (omega arith), part_anywhere P))
+
+pub approx_flex_layout-returns-then-l-eq-BAD-2 : goal.approx_flex_layout-returns-then-l-eq-BAD-2
+approx_flex_layout-returns-then-l-eq-BAD-2 t c =
+    let C = c.requires.0 in
+    let P = c.requires.1.0 in
+    let k = c.requires.1.1 in
+    node_inside C P k c.if-depth-ge-MOST_BLOCKS.false c.approx_fragments_layout-l-2.ensures c.if-l-eq-BAD-2.true
+
+pub approx_flex_layout-decide-requires : goal.approx_flex_layout-decide-requires
+approx_flex_layout-decide-requires t c =
+    let C = c.requires.0 in
+    let P = c.requires.1.0 in
+    (omega (arith, P.rising, P.ends, C.short), c.approx_fragments_layout-l-2.ensures.words ∙ C.words)
+
+pub approx_flex_layout-returns : goal.approx_flex_layout-returns
+approx_flex_layout-returns t c =
+    let C = c.requires.0 in
+    let P = c.requires.1.0 in
+    let k = c.requires.1.1 in
+    node_four C P k c.if-depth-ge-MOST_BLOCKS.false c.approx_fragments_layout-l-2.ensures c.if-l-eq-BAD-2.false (other_four k c.if-s-at-eq3.false)
+    c.saturating_sub-block.ensures c.room-most.ensures c.larger.ensures c.decide.ensures
+
+pub approx_fragments_layout-loop-at-init : goal.approx_fragments_layout-loop-at-init
+approx_fragments_layout-loop-at-init t c =
+    fragments_start c.requires.0 c.requires.1 c.inline-layout.ensures
+
+pub approx_fragments_layout-field_in-f-requires : goal.approx_fragments_layout-field_in-f-requires
+approx_fragments_layout-field_in-f-requires t c =
+    let P = c.loop-at.invariant.come.part in
+    (P.rising, P.ends)
+
+pub approx_fragments_layout-returns-in_default : goal.approx_fragments_layout-returns-in_default
+approx_fragments_layout-returns-in_default t c =
+    let I = c.loop-at.invariant in
+    fragments_short I c.loop-at-test.true c.field_in-f.ensures c.in_default.not-Whole
+
+pub approx_fragments_layout-returns-then-tag-ne8 : goal.approx_fragments_layout-returns-then-tag-ne8
+approx_fragments_layout-returns-then-tag-ne8 t c =
+    let I = c.loop-at.invariant in
+    let P = I.come.part in
+    let A = field_there P c.field_in-f.ensures c.in-Whole.is in
+    fragments_tag I A c.if-tag-ne8.true
+
+pub approx_fragments_layout-approx_layout-l-requires : goal.approx_fragments_layout-approx_layout-l-requires
+approx_fragments_layout-approx_layout-l-requires t c =
+    let I = c.loop-at.invariant in
+    let P = I.come.part in
+    let A = field_there P c.field_in-f.ensures c.in-Whole.is in
+    (omega (arith, c.decreases), (clear_later I.clear (omega (arith, begins A)), part_anywhere (value_part P A)))
+
+pub approx_fragments_layout-returns-then-l-eq-BAD : goal.approx_fragments_layout-returns-then-l-eq-BAD
+approx_fragments_layout-returns-then-l-eq-BAD t c =
+    let I = c.loop-at.invariant in
+    let P = I.come.part in
+    let A = field_there P c.field_in-f.ensures c.in-Whole.is in
+    fragment_wrong I A c.if-tag-ne8.false c.approx_layout-l.ensures c.if-l-eq-BAD.true
+
+pub approx_fragments_layout-loop-at-smaller : goal.approx_fragments_layout-loop-at-smaller
+approx_fragments_layout-loop-at-smaller t c =
+    let I = c.loop-at.invariant in
+    let P = I.come.part in
+    let A = field_there P c.field_in-f.ensures c.in-Whole.is in
+    let h = in_the_part P A in
+    let r = rising A in
+    let q = begins A in
+    omega (arith, h, r, q)
+
+pub approx_fragments_layout-loop-at-preserved : goal.approx_fragments_layout-loop-at-preserved
+approx_fragments_layout-loop-at-preserved t c =
+    let I = c.loop-at.invariant in
+    let P = I.come.part in
+    let A = field_there P c.field_in-f.ensures c.in-Whole.is in
+    fragment_turn I A c.if-tag-ne8.false c.approx_layout-l.ensures c.if-l-eq-BAD.false c.append-layout.ensures
+
+pub approx_fragments_layout-returns : goal.approx_fragments_layout-returns
+approx_fragments_layout-returns t c =
+    fragments_end c.loop-at.invariant c.loop-at-test.false c.told.ensures
+
+pub approx_layout-loop-at-init : goal.approx_layout-loop-at-init
+approx_layout-loop-at-init t c =
+    nodes_start c.requires.0 c.requires.1 c.inline-layout.ensures
+
+pub approx_layout-ahead-st-requires : goal.approx_layout-ahead-st-requires
+approx_layout-ahead-st-requires t c =
+    (c.loop-at-test.true, c.loop-at.invariant.part)
+
+pub approx_layout-returns-then-st-at : goal.approx_layout-returns-then-st-at
+approx_layout-returns-then-st-at t c =
+    nodes_wrong c.loop-at.invariant (c.ahead-st.ensures.wrong c.if-st-at.true _) refl
+
+pub approx_layout-approx_stretch_layout-l-requires : goal.approx_layout-approx_stretch_layout-l-requires
+approx_layout-approx_stretch_layout-l-requires t c =
+    let I = c.loop-at.invariant in
+    let S = c.ahead-st.ensures in
+    let o = c.if-st-at.false in
+    (omega (arith, c.decreases), (blocks_clear I S o, (blocks_part I S o, ((S.laid o).middle, (S.sound o).middle))))
+
+pub approx_layout-returns-then-l-eq-BAD : goal.approx_layout-returns-then-l-eq-BAD
+approx_layout-returns-then-l-eq-BAD t c =
+    stretch_wrong c.loop-at.invariant c.ahead-st.ensures c.if-st-at.false c.approx_stretch_layout-l.ensures c.if-l-eq-BAD.true
+
+pub approx_layout-loop-at-smaller : goal.approx_layout-loop-at-smaller
+approx_layout-loop-at-smaller t c =
+    stretch_less c.loop-at.invariant c.ahead-st.ensures c.if-st-at.false
+
+pub approx_layout-loop-at-preserved : goal.approx_layout-loop-at-preserved
+approx_layout-loop-at-preserved t c =
+    stretch_on c.loop-at.invariant c.ahead-st.ensures c.if-st-at.false c.approx_stretch_layout-l.ensures c.if-l-eq-BAD.false c.behind-layout.ensures
+
+pub approx_layout-returns : goal.approx_layout-returns
+approx_layout-returns t c =
+    nodes_end c.loop-at.invariant c.loop-at-test.false c.told.ensures
+
+pub approx_stretch_layout-loop-node-init : goal.approx_stretch_layout-loop-node-init
+approx_stretch_layout-loop-node-init t c =
+    blocks_start c.requires.0 c.requires.1.0 c.requires.1.1.0 c.requires.1.1.1
+
+pub approx_stretch_layout-field_end_in-to-requires : goal.approx_stretch_layout-field_end_in-to-requires
+approx_stretch_layout-field_end_in-to-requires t c =
+    let I = c.loop-node.invariant in
+    (blocks_inside I c.loop-node-test.true, I.part.ends)
+
+pub approx_stretch_layout-bounds-s-node : goal.approx_stretch_layout-bounds-s-node
+approx_stretch_layout-bounds-s-node t c =
+    let I = c.loop-node.invariant in
+    let h = blocks_inside I c.loop-node-test.true in
+    omega (arith, h, I.part.ends)
+
+pub approx_stretch_layout-loop-node-smaller-then-not-is_flexible : goal.approx_stretch_layout-loop-node-smaller-then-not-is_flexible
+approx_stretch_layout-loop-node-smaller-then-not-is_flexible t c =
+    let I = c.loop-node.invariant in
+    let g = c.loop-node-test.true in
+    let e = c.field_end_in-to.ensures in
+    next_less I g e
+
+pub approx_stretch_layout-loop-node-preserved-then-not-is_flexible : goal.approx_stretch_layout-loop-node-preserved-then-not-is_flexible
+approx_stretch_layout-loop-node-preserved-then-not-is_flexible t c =
+    let I = c.loop-node.invariant in
+    let g = c.loop-node-test.true in
+    let e = c.field_end_in-to.ensures in
+    leaf_turn I g e c.is_flexible.ensures c.if-not-is_flexible.true
+
+pub approx_stretch_layout-approx_flex_layout-l-requires : goal.approx_stretch_layout-approx_flex_layout-l-requires
+approx_stretch_layout-approx_flex_layout-l-requires t c =
+    let I = c.loop-node.invariant in
+    let g = c.loop-node-test.true in
+    let e = c.field_end_in-to.ensures in
+    (omega (arith, c.decreases), (I.clear, (next_value I g e, sym c.is_flexible.ensures ∙ c.if-not-is_flexible.false)))
+
+pub approx_stretch_layout-returns-then-l-eq-BAD : goal.approx_stretch_layout-returns-then-l-eq-BAD
+approx_stretch_layout-returns-then-l-eq-BAD t c =
+    let I = c.loop-node.invariant in
+    let g = c.loop-node-test.true in
+    let e = c.field_end_in-to.ensures in
+    block_wrong I g e c.approx_flex_layout-l.ensures c.if-l-eq-BAD.true
+
+pub approx_stretch_layout-loop-node-smaller : goal.approx_stretch_layout-loop-node-smaller
+approx_stretch_layout-loop-node-smaller t c =
+    let I = c.loop-node.invariant in
+    let g = c.loop-node-test.true in
+    let e = c.field_end_in-to.ensures in
+    next_less I g e
+
+pub approx_stretch_layout-loop-node-preserved : goal.approx_stretch_layout-loop-node-preserved
+approx_stretch_layout-loop-node-preserved t c =
+    let I = c.loop-node.invariant in
+    let g = c.loop-node-test.true in
+    let e = c.field_end_in-to.ensures in
+    block_turn I g e c.approx_flex_layout-l.ensures c.if-l-eq-BAD.false
+
+pub approx_stretch_layout-returns : goal.approx_stretch_layout-returns
+approx_stretch_layout-returns t c =
+    blocks_end c.loop-node.invariant c.loop-node-test.false c.told.ensures
