@@ -1,7 +1,7 @@
 -- The field at a place, by what is known of the lengths; where a whole one stands, and what is not whole.
+use Rattle.std.specs.Prelude.{if◌then◌else◌}
 use Rattle.rules.proofs.Basics.{◌≡◌, refl, sym, ap, ap₂, ◌∙◌, List, Bool, true, false, ℕ, ◌+◌, ◌*◌, ◌<◌, ◌≤◌, arith, leb, length, take, get_or, length-take-le, leb-true, le-leb, lt-leb}
 use lib.Seq.{get_or-take, take-length}
-use Rattle.rules.specs.Bytes.{if◌then◌else◌}
 use Rattle.fields.specs.declared.Field.{Field}
 use Rattle.fields.specs.declared.Field.TheVariants.{Whole, Past, Cut}
 use Rattle.fields.specs.FieldAt.{field_at, length_at}

@@ -1,9 +1,10 @@
 -- Every answer's number fits 64 bits and loses nothing: places and counts are at most a file's length, a page is shorter than 2^24 bytes, and refusals
 -- have numbers of 1 to 255.
+use Rattle.std.specs.Prelude.{if◌then◌else◌}
 use Rattle.rules.proofs.Basics.{◌≡◌, refl, sym, subst, ◌∙◌, ap, List, [], ◌∷◌, none, some, Bool, true, false, inl, inr, ℕ, suc, ◌≤◌, ◌^◌, ◌<◌, arith, leb, eqb, length, get_or, leb-true}
 use mathlib.Core.Option.{Option}
 use Rattle.rules.specs.Limits.{most_bytes, most_columns}
-use Rattle.rules.specs.Bytes.{newline, if◌then◌else◌}
+use Rattle.rules.specs.Bytes.{newline}
 use Rattle.rules.specs.Result.{Result, refused, accepted, ◌>>=◌, ◌>>◌, need}
 use Rattle.rules.specs.Tree.{Frag}
 use Rattle.rules.specs.Encode.{encode}

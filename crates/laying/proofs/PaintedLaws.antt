@@ -1,10 +1,10 @@
 -- Marks beside a file: one more.
+use Rattle.std.specs.Prelude.{if◌then◌else◌}
 use Rattle.rules.proofs.Basics.{◌≡◌, refl, sym, ap, ◌∙◌, List, Bool, true, false, ℕ, suc, ◌+◌, ◌-◌, ◌*◌, ◌/◌, ◌%◌, ◌^◌, max, ◌<◌, arith, dec_lt, eqb, eq-eqb, ne_eqb, eqb-true, eqb-false, length, get_or, set, length-set}
 use native.Mathlib.Nat.{div-eq_of_lt, mod-eq_of_lt}
 use lib.Pow.{pow-lt, pow-add, shl-shr}
 use lib.Bits.{bit_or, or_shr, or_step, shifted_even}
 use lib.Seq.{get_or-set_same, get_or-set_other, ext_get_or}
-use Rattle.rules.specs.Bytes.{if◌then◌else◌}
 use Rattle.rules.specs.Marks.{marked, painted}
 use Rattle.rules.proofs.Marked.{painted_long, painted_at}
 use Rattle.laying.specs.Painted.{MarkedAt}

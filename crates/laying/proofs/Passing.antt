@@ -1,7 +1,7 @@
 -- The check of a fragment's nodes, some of which are passed over and checked later: what is left says, and where something is wrong.
+use Rattle.std.specs.Prelude.{if◌then◌else◌}
 use Rattle.rules.proofs.Basics.{◌≡◌, refl, sym, subst, ◌∙◌, List, [], ◌∷◌, ◌++◌, Bool, true, false, ℕ, zero, suc, ◌+◌, ◌≤◌, ◌<◌, arith, leb, eqb, eqb-true, get_or, take}
 use lib.Seq.{slice}
-use Rattle.rules.specs.Bytes.{if◌then◌else◌}
 use Rattle.rules.specs.Result.{Result, refused, accepted}
 use Rattle.rules.specs.Walk.{in_fragment, complete, allowed, is_block}
 use Rattle.fields.specs.FieldAt.{field_at}

@@ -1,10 +1,10 @@
 -- Marks become tags: a byte, those of a word, all.
+use Rattle.std.specs.Prelude.{if◌then◌else◌}
 use Rattle.rules.proofs.Basics.{◌≡◌, refl, sym, ap, subst, ◌∙◌, List, [], ◌∷◌, ◌++◌, Bool, true, false, ℕ, zero, suc, ◌+◌, ◌-◌, ◌*◌, ◌/◌, ◌%◌, ◌^◌, ◌<◌, ◌≤◌, zero-add, div-one, arith, dec_lt, eqb, eq-eqb, ne_eqb, length, get_or, take, drop, set, length-set, drop-drop, take-suc, drop-cons, take_all, drop_of_length-le}
 use native.Mathlib.Nat.{div-eq_of_lt, lt_trans}
 use lib.Pow.{pow_pos, pow-lt, shr-shr}
 use lib.Bits.{bit_or, or_add_and, and_le_l, and_le_r}
 use lib.Seq.{take-suc-set, drop-set-lt, get_or-drop}
-use Rattle.rules.specs.Bytes.{if◌then◌else◌}
 use Rattle.rules.specs.Answers.{changed}
 use Rattle.rules.specs.Marks.{bit_at, marked, painted}
 use Rattle.laying.specs.Painted.{Shown, ShownAll, WordAt}

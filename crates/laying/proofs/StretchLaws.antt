@@ -1,6 +1,6 @@
 -- The loop over a stretch's nodes, for its layout and for its check: its start, a turn and its end.
+use Rattle.std.specs.Prelude.{if◌then◌else◌}
 use Rattle.rules.proofs.Basics.{◌≡◌, refl, sym, ap, subst, ◌∙◌, List, Bool, true, false, ℕ, ◌+◌, ◌-◌, ◌<◌, ◌≤◌, arith, eqb, length, get_or, take, length-take-le}
-use Rattle.rules.specs.Bytes.{if◌then◌else◌}
 use Rattle.rules.specs.Walk.{in_fragment, allowed, is_block}
 use Rattle.rules.specs.Layout.{Shape, Inline, Block, ◌⊕◌}
 use Rattle.shapes.specs.Shapes.{shape}

@@ -1,7 +1,6 @@
 // A stretch of a fragment's nodes, up to the next rigid block: its leaves are checked and their rigid layouts appended; of its blocks only the headers
 // are looked at.
-ghost use Rattle.std.specs.Prelude.{◌≡◌, ◌<◌, eqb};
-ghost use Rattle.rules.specs.Bytes.{if◌then◌else◌};
+ghost use Rattle.std.specs.Prelude.{◌≡◌, ◌<◌, eqb, if◌then◌else◌};
 ghost use Rattle.rules.specs.Walk.{is_block};
 ghost use Rattle.shapes.specs.Shapes.{shape};
 ghost use Rattle.verify.specs.Walked.{Between, Node};

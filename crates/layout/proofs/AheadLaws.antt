@@ -1,6 +1,6 @@
 -- The loop over a stretch's nodes ahead of their layout: its start, a turn and its end.
+use Rattle.std.specs.Prelude.{if◌then◌else◌}
 use Rattle.rules.proofs.Basics.{◌≡◌, refl, sym, ap, subst, ◌∙◌, List, Bool, true, false, ◌||◌, or-true, false≢true, ℕ, zero, suc, ◌+◌, ◌-◌, ◌<◌, ◌≤◌, le_of_lt, arith, eqb, length, drop, get_or, length-drop, eq-eqb, eqb-true}
-use Rattle.rules.specs.Bytes.{if◌then◌else◌}
 use Rattle.rules.specs.Layout.{Shape, Inline, Block, ◌⊕◌}
 use Rattle.rules.specs.Ahead.{stretch}
 use Rattle.rigid.specs.RigidIn.{rigid_in, by_tag}

@@ -1,6 +1,7 @@
 -- Capped counts, and how many bytes of one field change.
+use Rattle.std.specs.Prelude.{if◌then◌else◌}
 use Rattle.rules.proofs.Basics.{◌≡◌, refl, sym, ap, ap₂, ◌∙◌, List, [], ◌∷◌, ◌++◌, append-nil, Bool, true, false, ℕ, suc, ◌+◌, ◌≤◌, arith, eqb, length, length-append}
-use Rattle.rules.specs.Bytes.{if◌then◌else◌, cap}
+use Rattle.rules.specs.Bytes.{cap}
 use Rattle.rules.specs.Encode.{field}
 use Rattle.rules.specs.Answers.{changed}
 use Rattle.rules.proofs.Stretches.{cap_min}

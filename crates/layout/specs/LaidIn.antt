@@ -1,7 +1,7 @@
 -- Layout by bytes: a node, a block's fragments, a fragment's nodes, in place; for any bytes, so that the functions have no preconditions.
-use Rattle.std.specs.Prelude.{List, [], ◌∷◌, ℕ, zero, suc, ◌+◌, ◌-◌, max, leb, eqb, length, get_or, drop, set, Bool, true, false}
+use Rattle.std.specs.Prelude.{List, [], ◌∷◌, ℕ, zero, suc, ◌+◌, ◌-◌, max, leb, eqb, length, get_or, drop, set, Bool, true, false, if◌then◌else◌}
 use Rattle.rules.specs.Limits.{indentation}
-use Rattle.rules.specs.Bytes.{if◌then◌else◌, cap}
+use Rattle.rules.specs.Bytes.{cap}
 use Rattle.rules.specs.Layout.{Shape, Inline, Block, ◌⊕◌, room}
 use Rattle.rules.specs.Ahead.{stretch}
 use Rattle.rigid.specs.RigidIn.{rigid_in}

@@ -1,6 +1,6 @@
 -- A stretch of a fragment's nodes: its end, the nodes of it that change nothing, and the walk over its nodes seen from a place in it.
-use Rattle.std.specs.Prelude.{◌≡◌, List, ℕ, zero, suc, ◌+◌, ◌≤◌, ◌<◌, eqb, length, drop}
-use Rattle.rules.specs.Bytes.{if◌then◌else◌, cap}
+use Rattle.std.specs.Prelude.{◌≡◌, List, ℕ, zero, suc, ◌+◌, ◌≤◌, ◌<◌, eqb, length, drop, if◌then◌else◌}
+use Rattle.rules.specs.Bytes.{cap}
 use Rattle.rules.specs.Layout.{Shape, Inline}
 use Rattle.fields.specs.Walk.{span}
 use Rattle.fields.proofs.Loops.{Part}

@@ -1,8 +1,9 @@
 -- How long the tags of a good style are at most, where its fields are bytes.
+use Rattle.std.specs.Prelude.{if◌then◌else◌}
 use Rattle.rules.proofs.Basics.{◌≡◌, refl, List, [], ◌∷◌, ◌++◌, Option, none, some, Option·map, Bool, true, false, ◌||◌, ℕ, zero, suc, ◌+◌, ◌-◌, ◌/◌, ◌%◌, ◌^◌, ◌≤◌, ◌<◌, arith, T, leb, ltb, eqb, leb→le, ℤ, pos, negsuc, length, length-append, eqb-true, leb-true, ltb-true, ltb-false}
 use lib.Ieee.{binary32}
 use lib.Ieee.Nearest.{div_mono}
-use Rattle.rules.specs.Bytes.{if◌then◌else◌, ascii, join, number, number_from}
+use Rattle.rules.specs.Bytes.{ascii, join, number, number_from}
 use Rattle.rules.specs.Digits.{digit, digits, signed, hex, last_digits, fraction, sign, decimal_text}
 use Rattle.rules.specs.Search.{shortest}
 use Rattle.rules.specs.Sizes.{signed_decimal, opacity_text, em_text}

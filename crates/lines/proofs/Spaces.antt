@@ -1,6 +1,6 @@
 -- What comes before an item: the target, and the waiting break with the spaces.
+use Rattle.std.specs.Prelude.{if◌then◌else◌}
 use Rattle.rules.proofs.Basics.{◌≡◌, refl, ap, ◌∙◌, List, [], ◌++◌, none, Bool, true, false, ℕ, ◌<◌, arith, eqb}
-use Rattle.rules.specs.Bytes.{if◌then◌else◌}
 use Rattle.rules.specs.Lines as rules
 use Rattle.lines.specs.declared.Waiting as W
 use Rattle.lines.specs.declared.Machine as M

@@ -1,7 +1,6 @@
 -- What the code's machine, its operations and what it has written stand for in the rules.
-use Rattle.std.specs.Prelude.{List, [], ◌∷◌, ◌++◌, map, Bool, ℕ, replicate}
+use Rattle.std.specs.Prelude.{List, [], ◌∷◌, ◌++◌, map, Bool, ℕ, replicate, if◌then◌else◌}
 use Rattle.std.proofs.Math.Option.{Option, none, some}
-use Rattle.rules.specs.Bytes.{if◌then◌else◌}
 use Rattle.rules.specs.Lines as rules
 use Rattle.styles.specs.StylesIn.{styles_in}
 use Rattle.lines.specs.declared.Break as B

@@ -1,10 +1,11 @@
 -- The effective size of a style, and its text.
+use Rattle.std.specs.Prelude.{if◌then◌else◌}
 use Rattle.rules.proofs.Basics.{◌≡◌, refl, sym, subst, ◌∙◌, List, [], ◌∷◌, Bool, true, false, ◌||◌, Option, none, some, ℕ, T, ℤ, pos}
 use lib.Signed.{◌≤ℤ◌}
 use mir.Syntax.{w8}
 use mir.Val.{SFits, to_z, of_z}
 use mir.Facts.{to_z-of_z}
-use Rattle.rules.specs.Bytes.{if◌then◌else◌, ascii, join}
+use Rattle.rules.specs.Bytes.{ascii, join}
 use Rattle.rules.specs.Html.{size_css, script}
 use Rattle.rules.specs.Layout.{or_script, effective}
 use Rattle.rules.specs.Sizes.{em_text}

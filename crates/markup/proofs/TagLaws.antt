@@ -1,6 +1,7 @@
 -- The name of a style's tag, and its attributes.
+use Rattle.std.specs.Prelude.{if◌then◌else◌}
 use Rattle.rules.proofs.Basics.{◌≡◌, refl, sym, subst, List, [], ◌∷◌, append_assoc, append-nil, Bool, true, false, ℕ, T}
-use Rattle.rules.specs.Bytes.{if◌then◌else◌, ascii, join}
+use Rattle.rules.specs.Bytes.{ascii, join}
 use Rattle.rules.specs.Html.{colour_css, weight_css, size_css, script, underline_css, css, tag_name, attribute, open_tag}
 use Rattle.rules.specs.Layout.{or_script, effective}
 use Rattle.styles.specs.declared.Styles.{Styles}

@@ -1,6 +1,6 @@
 -- The calls read off a file are of bytes, as the file is.
+use Rattle.std.specs.Prelude.{if◌then◌else◌}
 use Rattle.rules.proofs.Basics.{List, [], ◌∷◌, Option, none, some, Bool, true, false, ℕ, ◌<◌, arith, eqb, get_or}
-use Rattle.rules.specs.Bytes.{if◌then◌else◌}
 use Rattle.rules.specs.Walk.{Fields, end, bytes, inside}
 use Rattle.rules.specs.Tree.{Run, bytes_of, Leaf, text, anchor, space, force, if_block, Kind, indented, flexible, Frag, stop, leaf, block, Frags, none_left, frag}
 use Rattle.rules.specs.Encode.{encode_fields, run_fields, runs_fields, anchor_tag, leaf_fields, frag_fields, frags_fields}

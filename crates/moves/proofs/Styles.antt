@@ -1,7 +1,8 @@
 -- Styles: a record's fields are formed, and formed fields come back from their record.
+use Rattle.std.specs.Prelude.{if◌then◌else◌}
 use Rattle.rules.proofs.Basics.{◌≡◌, refl, sym, ap, ◌∙◌, List, [], ◌∷◌, Option, none, some, Bool, true, false, and-eq-true_iff, ℕ, zero, suc, ◌+◌, ◌≤◌, ◌<◌, arith, leb, ltb, eqb, length, get_or, leb-true, ltb-true, lt-ltb, eqb-true, eqb-false, ne_eqb}
 use Rattle.rules.specs.Limits.{first_style, last_style}
-use Rattle.rules.specs.Bytes.{if◌then◌else◌, within}
+use Rattle.rules.specs.Bytes.{within}
 use Rattle.rules.specs.Walk.{Fields, end, bytes, inside, in_styles, allowed, allowed_to, right_length, holds}
 use Rattle.rules.specs.Tree.{Run, bytes_of}
 use Rattle.scripts.specs.Formed.{Rising, FormedStyle}

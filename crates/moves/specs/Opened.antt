@@ -1,6 +1,5 @@
 -- Unfinished headers: the code of what is open, the link to what is open around it, and closing.
-use Rattle.std.specs.Prelude.{List, ℕ, zero, suc, ◌+◌, ◌-◌, ◌*◌, ◌/◌, ◌%◌, leb, eqb, set, get_or}
-use Rattle.rules.specs.Bytes.{if◌then◌else◌}
+use Rattle.std.specs.Prelude.{List, ℕ, zero, suc, ◌+◌, ◌-◌, ◌*◌, ◌/◌, ◌%◌, leb, eqb, set, get_or, if◌then◌else◌}
 
 -- the root's code, above every byte
 abbrev pub root_code : ℕ

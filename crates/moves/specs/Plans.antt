@@ -1,7 +1,6 @@
 -- What each step does where it is allowed: the table of steps by what is open. Kinds are the numbers of `Shown.opened_number`, and 8 the root.
-use Rattle.std.specs.Prelude.{List, [], ◌∷◌, ◌++◌, Bool, true, false, ◌&&◌, ◌||◌, not, ℕ, zero, suc, ◌+◌, ◌*◌, ◌/◌, ◌%◌, leb, ltb, eqb}
+use Rattle.std.specs.Prelude.{List, [], ◌∷◌, ◌++◌, Bool, true, false, ◌&&◌, ◌||◌, not, ℕ, zero, suc, ◌+◌, ◌*◌, ◌/◌, ◌%◌, leb, ltb, eqb, if◌then◌else◌}
 use Rattle.rules.specs.Limits.{most_bytes, most_blocks}
-use Rattle.rules.specs.Bytes.{if◌then◌else◌}
 use Rattle.rules.specs.Result.{Check, ◌or_refuse◌}
 use Rattle.rules.specs.Walk.{text_content, anchor_content}
 use Rattle.rules.specs.Encode.{field}

@@ -1,6 +1,7 @@
 -- The line operations by the bytes of a file with marks beside it are those of the tree that the marks show.
+use Rattle.std.specs.Prelude.{if◌then◌else◌}
 use Rattle.rules.proofs.Basics.{◌≡◌, refl, sym, ap, ◌∙◌, subst, List, [], ◌∷◌, ◌++◌, append_assoc, append-nil, Bool, true, false, ℕ, suc, ◌+◌, ◌<◌, arith, length}
-use Rattle.rules.specs.Bytes.{if◌then◌else◌, newline}
+use Rattle.rules.specs.Bytes.{newline}
 use Rattle.rules.specs.Walk.{in_fragment, in_block, holds, is_block}
 use Rattle.rules.specs.Tree.{indented, flexible, Frag, block, Frags, none_left, frag}
 use Rattle.rules.specs.Encode.{field, encode_fields, block_tag, frag_fields, frags_fields, encode}

@@ -1,8 +1,8 @@
 -- A node by its tag, a 4 by its mark, an indented block, and the loops over fragments and nodes.
+use Rattle.std.specs.Prelude.{if◌then◌else◌}
 use Rattle.rules.proofs.Basics.{◌≡◌, refl, sym, ◌∙◌, List, ◌++◌, Bool, true, false, ℕ, zero, suc, ◌+◌, ◌-◌, ◌<◌, ◌≤◌, arith, eqb, length, get_or, take, drop, drop_of_length-le, ne_eqb, le-leb, lt-leb}
 use Rattle.rules.specs.Limits.{most_bytes}
 use Rattle.rules.specs.Lines.{break, a_newline, indent, unindent}
-use Rattle.rules.specs.Bytes.{if◌then◌else◌}
 use Rattle.rules.specs.Marks.{marked}
 use Rattle.pages.proofs.EachOf.{each_nil}
 use Rattle.pages.proofs.Places.{long, first, behind}

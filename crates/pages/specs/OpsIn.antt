@@ -1,7 +1,7 @@
 -- The line operations of a node, of a block's fragments and of a fragment's nodes, by their bytes and the place where these stand in the file, which a choice is
 -- asked for; for any bytes, so that the functions have no preconditions beyond the indent's and the place's.
-use Rattle.std.specs.Prelude.{List, [], ◌∷◌, ◌++◌, Bool, true, false, ℕ, zero, suc, ◌+◌, leb, eqb, length, get_or, drop}
-use Rattle.rules.specs.Bytes.{if◌then◌else◌, newline}
+use Rattle.std.specs.Prelude.{List, [], ◌∷◌, ◌++◌, Bool, true, false, ℕ, zero, suc, ◌+◌, leb, eqb, length, get_or, drop, if◌then◌else◌}
+use Rattle.rules.specs.Bytes.{newline}
 use Rattle.rules.specs.Lines.{mark, push, pop, open_anchor, close_anchor, empty_anchor, break, a_space, a_newline, indent, unindent, text_ops}
 use Rattle.fields.specs.declared.Field.{Field}
 use Rattle.fields.specs.declared.Field.TheVariants.{Whole, Past, Cut}

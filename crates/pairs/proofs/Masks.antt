@@ -1,7 +1,8 @@
 -- The mask of an accepted file: it is accepted, has the same fields at the same places, and is its own mask; and where no text has some bytes
 -- it is the mask that keeps those.
+use Rattle.std.specs.Prelude.{if◌then◌else◌}
 use Rattle.rules.proofs.Basics.{◌≡◌, refl, sym, ap, ap₂, ◌∙◌, List, [], ◌∷◌, map, Option, none, some, Option·map, Bool, true, false, ◌&&◌, ◌||◌, inl, ℕ, suc, ◌+◌, ◌<◌, zero-add, arith, eqb, length, length-map, length-append, get_or, ne_eqb, eqb-true}
-use Rattle.rules.specs.Bytes.{if◌then◌else◌, has}
+use Rattle.rules.specs.Bytes.{has}
 use Rattle.rules.specs.Result.{accepted, ◌>>=◌}
 use Rattle.rules.specs.Walk.{Fields, end, bytes, inside, check, content, is_text}
 use Rattle.rules.specs.Tree.{Frag, map_fields}

@@ -1,7 +1,7 @@
 -- On an accepted file the fields one after the other are its fields: which bytes stand in texts, and the text at a place.
+use Rattle.std.specs.Prelude.{if◌then◌else◌}
 use Rattle.rules.proofs.Basics.{◌≡◌, refl, sym, ap, ap₂, ◌∙◌, List, [], ◌∷◌, ◌++◌, append_assoc, append-nil, none, some, Bool, true, false, ◌&&◌, ◌||◌, ℕ, zero, suc, ◌+◌, ◌-◌, ◌/◌, ◌%◌, ◌≤◌, ◌<◌, arith, eqb, length, length-append, replicate, eqb-true, zero-add}
 use mathlib.Core.Option.{Option}
-use Rattle.rules.specs.Bytes.{if◌then◌else◌}
 use Rattle.rules.specs.Result.{accepted}
 use Rattle.rules.specs.Walk.{Fields, end, bytes, inside, Holder, holds, is_text}
 use Rattle.rules.specs.Encode.{field, encode_fields, frag_fields, encode}

@@ -1,9 +1,10 @@
 -- A file and its mask: when the check takes them for one, what it answers, what a reader is given with the right to names and without it, and that
 -- without it nothing but the mask is told.
+use Rattle.std.specs.Prelude.{if◌then◌else◌}
 use Rattle.rules.proofs.Basics.{◌≡◌, refl, sym, ap, ap₂, subst, ◌∙◌, List, [], ◌∷◌, ◌++◌, append_assoc, map, Option, none, some, Bool, true, false, ◌&&◌, ◌||◌, and-eq-true_iff, ◌⊎◌, inl, inr, ℕ, zero, suc, ◌+◌, ◌/◌, ◌%◌, ◌≤◌, ◌<◌, zero-add, arith, eqb, length, length-map, length-append, get_or, replicate, length-replicate, take, drop, take_at, drop_at, eqb-true, ne_eqb, eq-eqb}
 use mathlib.Core.Logic.{⊎_elim}
 use native.Mathlib.Nat.{eq-or-lt_of_le}
-use Rattle.rules.specs.Bytes.{if◌then◌else◌, has}
+use Rattle.rules.specs.Bytes.{has}
 use Rattle.rules.specs.Result.{Result, accepted, refused, ◌>>=◌, ◌>>◌, need}
 use Rattle.rules.specs.Walk.{Fields, end, bytes, inside, is_text}
 use Rattle.rules.specs.Tree.{Frag}

@@ -1,8 +1,7 @@
 -- The fields of some bytes one after the other, from the front: what holds fields is entered, all else is passed. On an accepted file these are its fields
 -- (`proofs/OfFiles`), and the code goes by them.
-use Rattle.std.specs.Prelude.{List, [], ◌∷◌, ◌++◌, Bool, true, false, ◌&&◌, ℕ, zero, suc, ◌-◌, eqb, length, replicate}
+use Rattle.std.specs.Prelude.{List, [], ◌∷◌, ◌++◌, Bool, true, false, ◌&&◌, ℕ, zero, suc, ◌-◌, eqb, length, replicate, if◌then◌else◌}
 use Rattle.std.proofs.Math.Option.{Option, none, some}
-use Rattle.rules.specs.Bytes.{if◌then◌else◌}
 use Rattle.rules.specs.Result.{Result, refused, accepted}
 use Rattle.rules.specs.Walk.{Holder, holds, is_text}
 use Rattle.fields.specs.declared.Field.{Field}

@@ -1,7 +1,6 @@
 -- A file and its mask, given together with a place: whether they are one, and the text whose field stands there.
-use Rattle.std.specs.Prelude.{List, [], ◌∷◌, Bool, ◌&&◌, ℕ, suc, ◌+◌, eqb, length, take, drop}
+use Rattle.std.specs.Prelude.{List, [], ◌∷◌, Bool, ◌&&◌, ℕ, suc, ◌+◌, eqb, length, take, drop, if◌then◌else◌}
 use Rattle.std.proofs.Math.Option.{Option, none, some}
-use Rattle.rules.specs.Bytes.{if◌then◌else◌}
 use Rattle.rules.specs.Result.{Result, refused, accepted, ◌>>=◌, ◌>>◌, need}
 use Rattle.rules.specs.Walk.{Fields, end, bytes, inside, content, check, is_text}
 use Rattle.rules.specs.Encode.{encode_fields}

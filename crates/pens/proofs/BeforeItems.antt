@@ -1,6 +1,6 @@
 -- What stands before a part or a mark: its bytes, the line there, and what the operation then leaves.
+use Rattle.std.specs.Prelude.{if◌then◌else◌}
 use Rattle.rules.proofs.Basics.{◌≡◌, refl, sym, ap, ◌∙◌, List, [], ◌∷◌, ◌++◌, append-nil, Option, none, some, Bool, true, false, ℕ, zero, suc, ◌+◌, ◌-◌, ◌*◌, ◌/◌, ◌%◌, ◌<◌, ◌≤◌, arith, ltb, lt-ltb, le-ltb, length, replicate}
-use Rattle.rules.specs.Bytes.{if◌then◌else◌}
 use Rattle.rules.specs.Lines as rules
 use Rattle.rules.specs.Lines.{Machine, Line, Break, LineOp, Item, making, release, levels, spacing, item, step, run, after, part}
 use Rattle.writing.specs.Written.{Written}

@@ -1,6 +1,7 @@
 -- The lines of a text: the first, and the loop over the later ones.
+use Rattle.std.specs.Prelude.{if◌then◌else◌}
 use Rattle.rules.proofs.Basics.{◌≡◌, refl, sym, ap, ◌∙◌, List, [], ◌∷◌, ◌++◌, append-nil, append_assoc, Bool, true, false, ℕ, ◌+◌, ◌-◌, ◌<◌, ◌≤◌, arith, add-one, length, take, drop, length-drop, length-take, drop_of_length-le, drop-cons, drop-drop, take_all}
-use Rattle.rules.specs.Bytes.{if◌then◌else◌, newline}
+use Rattle.rules.specs.Bytes.{newline}
 use Rattle.rules.specs.Layout.{parts}
 use Rattle.rules.specs.Lines.{part, new_line, later, text_ops}
 use Rattle.lines.specs.declared.LineOp.TheVariants as Op

@@ -1,6 +1,7 @@
 -- A text at the margin of a plain page: its bytes are all that shows, and the last one says whether its line has text.
+use Rattle.std.specs.Prelude.{if◌then◌else◌}
 use Rattle.rules.proofs.Basics.{◌≡◌, refl, sym, ap, ◌∙◌, List, [], ◌∷◌, ◌++◌, Bool, true, false, not, none, ℕ, zero, suc, ◌+◌, ◌/◌, ◌%◌, arith, eqb→eq, eq-eqb, ne_eqb, length, get_or}
-use Rattle.rules.specs.Bytes.{if◌then◌else◌, newline}
+use Rattle.rules.specs.Bytes.{newline}
 use Rattle.rules.specs.Layout.{parts}
 use Rattle.rules.specs.Lines.{part, new_line, later, text_ops, Line, empty, has_text, Machine, start, Item, making, release, spacing, levels, target, item, step, run, after}
 use Rattle.rules.specs.Plain.{chars, fill}

@@ -1,6 +1,5 @@
 // The pen: the line machine, and how far the page is written. One operation at a time.
-ghost use Rattle.std.specs.Prelude.{◌≡◌, [], ◌∷◌, ◌<◌, ◌^◌, length};
-ghost use Rattle.rules.specs.Bytes.{if◌then◌else◌};
+ghost use Rattle.std.specs.Prelude.{◌≡◌, [], ◌∷◌, ◌<◌, ◌^◌, length, if◌then◌else◌};
 ghost use Rattle.writing.specs.Written.{Written};
 ghost use Rattle.lines.specs.Said.{break_bytes, before_bytes, copies, own};
 ghost use Rattle.lines.specs.declared.LineOp.TheVariants as LineOp;

@@ -1,6 +1,5 @@
 -- What printing an asked page leaves in the input and in the page: the input's file laid out, and its page where the layout is accepted.
-use Rattle.std.specs.Prelude.{List, ◌++◌, ℕ, ◌+◌, ◌*◌, leb, length, get_or, take, drop}
-use Rattle.rules.specs.Bytes.{if◌then◌else◌}
+use Rattle.std.specs.Prelude.{List, ◌++◌, ℕ, ◌+◌, ◌*◌, leb, length, get_or, take, drop, if◌then◌else◌}
 use Rattle.rules.specs.Result.{Result, refused, accepted}
 use Rattle.rules.specs.Answers.{layout_outcome, document_outcome, strict_document_outcome}
 use Rattle.rules.specs.Prints.{print_outcome}

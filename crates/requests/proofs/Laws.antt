@@ -1,6 +1,6 @@
 -- The request at a place, by what is known of the lengths, and where its file stands.
+use Rattle.std.specs.Prelude.{if◌then◌else◌}
 use Rattle.rules.proofs.Basics.{◌≡◌, refl, sym, ◌∙◌, List, Bool, true, false, ℕ, ◌+◌, ◌<◌, ◌≤◌, arith, leb, length, get_or, leb-true, le-leb, lt-leb}
-use Rattle.rules.specs.Bytes.{if◌then◌else◌}
 use Rattle.requests.specs.declared.Request.{Request}
 use Rattle.requests.specs.declared.Request.TheVariants.{File, NoMore}
 use Rattle.requests.specs.Requests.{width_at, room_at, long_at, request_at}

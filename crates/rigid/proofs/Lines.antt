@@ -1,6 +1,7 @@
 -- The bytes after the last newline, counted from the end, and a text by its parts.
+use Rattle.std.specs.Prelude.{if◌then◌else◌}
 use Rattle.rules.proofs.Basics.{◌≡◌, refl, sym, ap, ◌∙◌, List, [], ◌∷◌, Bool, true, false, ℕ, zero, suc, ◌+◌, ◌-◌, ◌≤◌, ◌<◌, arith, length, take, drop, get_or, drop_of_length-le, drop-cons, eq-eqb, ne_eqb}
-use Rattle.rules.specs.Bytes.{if◌then◌else◌, newline}
+use Rattle.rules.specs.Bytes.{newline}
 use Rattle.rules.specs.Layout.{Shape, Inline, Block, last, parts, only_if_block}
 use Rattle.looks.specs.Calm.{Lacks, Says}
 use Rattle.looks.proofs.CalmBytes.{lacks_has}

@@ -1,6 +1,6 @@
 -- The rigid layout of a node, by the bytes of its field; for any bytes, so that the functions have no preconditions.
-use Rattle.std.specs.Prelude.{List, [], ◌∷◌, ◌&&◌, ◌||◌, ℕ, ◌*◌, leb, eqb, length, get_or, drop}
-use Rattle.rules.specs.Bytes.{if◌then◌else◌, cap, newline}
+use Rattle.std.specs.Prelude.{List, [], ◌∷◌, ◌&&◌, ◌||◌, ℕ, ◌*◌, leb, eqb, length, get_or, drop, if◌then◌else◌}
+use Rattle.rules.specs.Bytes.{cap, newline}
 use Rattle.rules.specs.Layout.{Shape, Inline, Block, ◌⊕◌, last, parts, only_if_block, byte_width, effective}
 use Rattle.fields.specs.declared.Field.{Field}
 use Rattle.fields.specs.declared.Field.TheVariants.{Whole, Past, Cut}

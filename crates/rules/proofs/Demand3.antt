@@ -1,11 +1,12 @@
 -- Demand 3 on the rules. Two accepted files that are equal but for bytes inside texts, newlines at the same places, are one tree over places filled
 -- in two ways. So layout changes the same tags and leaves such files again, and one list of page bytes gives both plain pages; for HTML with & and
 -- < at the same places.
+use Rattle.std.specs.Prelude.{if◌then◌else◌}
 use Rattle.rules.proofs.Basics.{◌≡◌, refl, sym, ◌∙◌, ap, ap₂, List, [], ◌∷◌, map, Bool, true, false, inl, ℕ, suc, ◌≤◌, ◌<◌, zero-add, arith, leb, eqb, length, get_or, take, leb-true, leb-false}
 use mathlib.Core.Path.{fun_ext}
 use lib.ListN.{get_or-eq_default}
 use Rattle.rules.specs.Limits.{most_columns}
-use Rattle.rules.specs.Bytes.{if◌then◌else◌, has, newline}
+use Rattle.rules.specs.Bytes.{has, newline}
 use Rattle.rules.specs.Result.{accepted, refused, ◌>>=◌, ◌>>◌, need}
 use Rattle.rules.specs.Walk.{check, content}
 use Rattle.rules.specs.Tree.{Frag, frag_of, read, read_to}

@@ -1,6 +1,7 @@
 -- What holds of every item of a page: it holds of what the line machine makes, of pushes and pops, of the bytes of texts and of the names of anchors.
+use Rattle.std.specs.Prelude.{if◌then◌else◌}
 use Rattle.rules.proofs.Basics.{◌≡◌, refl, List, [], ◌∷◌, ◌++◌, Option, none, some, Bool, true, false, ℕ, zero, suc, ◌-◌, ◌*◌, ltb, replicate}
-use Rattle.rules.specs.Bytes.{if◌then◌else◌, newline}
+use Rattle.rules.specs.Bytes.{newline}
 use Rattle.rules.specs.Walk.{Fields, end, bytes, inside, is_text}
 use Rattle.rules.specs.Tree.{Styles, styles_of, Run, Leaf, text, anchor, space, force, if_block, indented, flexible, Frag, stop, leaf, block, Frags, none_left, frag}
 use Rattle.rules.specs.Encode.{run_fields, runs_fields, anchor_tag, leaf_fields, frag_fields, frags_fields}

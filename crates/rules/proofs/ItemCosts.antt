@@ -1,6 +1,6 @@
 -- What the items of a page cost: those that the line machine puts before an item, and what the bytes of a file pay.
+use Rattle.std.specs.Prelude.{if◌then◌else◌}
 use Rattle.rules.proofs.Basics.{◌≡◌, refl, ap, List, [], ◌∷◌, ◌++◌, Option, none, some, Bool, true, false, ℕ, zero, suc, ◌+◌, ◌*◌, ◌-◌, ◌≤◌, arith, ltb, length, replicate, length-replicate, suc-mul}
-use Rattle.rules.specs.Bytes.{if◌then◌else◌}
 use Rattle.rules.specs.Lines.{Break, a_space, a_newline, Line, empty, indented_by, has_text, Machine, Item, char, made, target, making, release, levels, spacing, item, broken}
 use Rattle.rules.proofs.Runs.{Items, target_le}
 

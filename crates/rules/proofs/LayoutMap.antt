@@ -1,7 +1,7 @@
 -- Naturality of layout: the layout of a mapped tree is the mapped layout, as long as newlines stand alike.
+use Rattle.std.specs.Prelude.{if◌then◌else◌}
 use Rattle.rules.proofs.Basics.{◌≡◌, refl, sym, ap, ◌∙◌, List, [], ◌∷◌, map, Option, none, Bool, true, false, ℕ, ◌*◌, ◌-◌, max, length-map}
 use Rattle.rules.specs.Limits.{indentation}
-use Rattle.rules.specs.Bytes.{if◌then◌else◌}
 use Rattle.rules.specs.Walk.{Fields}
 use Rattle.rules.specs.Tree.{Run, Leaf, text, anchor, space, force, if_block, Kind, indented, flexible, Frag, stop, leaf, block, Frags, none_left, frag}
 use Rattle.rules.specs.Layout.{parts, Shape, Inline, Block, ◌⊕◌, width, last, room, rigid_text, rigid_runs, rigid, chosen, layout, parts_shape, only_if_block}

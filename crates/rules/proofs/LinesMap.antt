@@ -1,6 +1,6 @@
 -- Naturality of the items of a page: those of a mapped tree are the mapped items, as long as newlines stand alike.
+use Rattle.std.specs.Prelude.{if◌then◌else◌}
 use Rattle.rules.proofs.Basics.{◌≡◌, refl, ap, List, [], ◌∷◌, map, Option, none, some, Bool, true, false, ℕ, ltb}
-use Rattle.rules.specs.Bytes.{if◌then◌else◌}
 use Rattle.rules.specs.Walk.{Fields}
 use Rattle.rules.specs.Tree.{Run, Leaf, text, anchor, space, force, if_block, indented, flexible, Frag, stop, leaf, block, Frags, none_left, frag}
 use Rattle.rules.specs.Lines.{LineOp, part, mark, empty_anchor, new_line, break, indent, unindent, Item, char, marked, open_anchor, close_anchor, copied, later, styled, text_ops, run_ops, runs_ops, leaf_ops, ops, indented_ops, inline_ops, Break, a_space, a_newline, Line, empty, indented_by, has_text, Machine, ignored, target, making, release, levels, spacing, item, broken, unless_empty, step, run, items}

@@ -1,6 +1,6 @@
 -- Lists: what `map` does to them.
+use Rattle.std.specs.Prelude.{if◌then◌else◌}
 use Rattle.rules.proofs.Basics.{◌≡◌, refl, ap, List, [], ◌∷◌, ◌++◌, map, Bool, true, false, ℕ, zero, suc, take, drop}
-use Rattle.rules.specs.Bytes.{if◌then◌else◌}
 
 pub map_append : {A B : Type 0} (f : A → B) (l m : List A) → map f (l ++ m) ≡ map f l ++ map f m
 map_append f [] m = refl

@@ -1,9 +1,9 @@
 -- A file with marks beside it: what a place shows, none, parts one after the other, and marks that show what layout leaves.
+use Rattle.std.specs.Prelude.{if◌then◌else◌}
 use Rattle.rules.proofs.Basics.{◌≡◌, refl, sym, ap, ◌∙◌, subst, List, [], ◌∷◌, ◌++◌, Bool, false, ℕ, zero, suc, ◌+◌, ◌/◌, ◌%◌, ◌^◌, ◌<◌, arith, eqb, length, get_or, replicate, take, drop, take_at, drop_at, add-zero}
 use native.Mathlib.Nat.{div-eq_of_lt}
 use lib.Pow.{pow_pos}
 use lib.Seq.{ext_get_or}
-use Rattle.rules.specs.Bytes.{if◌then◌else◌}
 use Rattle.rules.specs.Result.{Result, refused, accepted}
 use Rattle.rules.specs.Tree.{Frag}
 use Rattle.rules.specs.Encode.{field}

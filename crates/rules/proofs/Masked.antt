@@ -1,6 +1,7 @@
 -- Every accepted file and its mask are two files as in demand 3: the mask is accepted, and is equal but for bytes inside texts.
+use Rattle.std.specs.Prelude.{if◌then◌else◌}
 use Rattle.rules.proofs.Basics.{◌≡◌, refl, sym, ◌∙◌, ap, List, [], ◌∷◌, map, Bool, true, false, ◌||◌, inr, ℕ, zero, suc, ◌<◌, zero-add, arith, eqb, length, get_or, replicate, eqb-true, le-leb}
-use Rattle.rules.specs.Bytes.{if◌then◌else◌, has}
+use Rattle.rules.specs.Bytes.{has}
 use Rattle.rules.specs.Utf8.{utf8, utf8_after, following}
 use Rattle.rules.specs.Result.{accepted, ◌>>=◌}
 use Rattle.rules.specs.Walk.{Fields, check, text_content, content, is_text}

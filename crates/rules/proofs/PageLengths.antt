@@ -1,8 +1,9 @@
 -- How long a page can be, at a cost of each item. Before a part, a push, a pop or an empty anchor stand at most a break, a newline and two spaces for each
 -- of 32 levels, 66 bytes. Every one of these has a byte of the file that pays for it, so that a plain page is at most 67 times as long as its file.
+use Rattle.std.specs.Prelude.{if◌then◌else◌}
 use Rattle.rules.proofs.Basics.{◌≡◌, refl, ◌∙◌, ap, List, [], ◌∷◌, ◌++◌, map, Option, none, some, Bool, true, false, ℕ, zero, suc, ◌+◌, ◌*◌, ◌≤◌, arith, length, length-append, le_refl, suc-mul}
 use Rattle.rules.specs.Limits.{most_blocks, plain_per_byte}
-use Rattle.rules.specs.Bytes.{if◌then◌else◌, newline}
+use Rattle.rules.specs.Bytes.{newline}
 use Rattle.rules.specs.Walk.{Fields, in_fragment, in_block, in_text, in_anchor, in_styles, holds, is_block}
 use Rattle.rules.specs.Tree.{styles_of, Run, Leaf, text, anchor, space, force, if_block, indented, flexible, Frag, stop, leaf, block, Frags, none_left, frag}
 use Rattle.rules.specs.Encode.{field, encode_fields, run_fields, runs_fields, anchor_tag, leaf_fields, block_tag, frag_fields, frags_fields, encode}

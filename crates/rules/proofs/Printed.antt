@@ -1,6 +1,6 @@
 -- Printed numbers: digits only, no leading zeros, one point at most; and a printed decimal reads back as that decimal.
+use Rattle.std.specs.Prelude.{if◌then◌else◌}
 use Rattle.rules.proofs.Basics.{◌≡◌, refl, sym, ◌∙◌, ap, ap₂, List, [], ◌∷◌, ◌++◌, append-nil, append_assoc, Bool, true, false, ℕ, zero, suc, ◌+◌, ◌-◌, ◌*◌, ◌/◌, ◌%◌, ◌^◌, ◌≤◌, ◌<◌, le_refl, pow-suc, div-div-eq-div-mul, mul_comm, div-one, dec_lt, arith, ltb, eqb, length, length-append, lt-ltb, le-ltb, ne_eqb}
-use Rattle.rules.specs.Bytes.{if◌then◌else◌}
 use Rattle.rules.specs.Digits.{digit, digits_in, digits, last_digits, Decimal, fraction, sign, decimal_text}
 
 -- ---- what is said of digits

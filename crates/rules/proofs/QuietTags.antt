@@ -1,6 +1,7 @@
 -- The tags of styles, read back: they show nothing, since no value in them has a quote.
+use Rattle.std.specs.Prelude.{if◌then◌else◌}
 use Rattle.rules.proofs.Basics.{refl, List, [], ◌∷◌, Option, none, some, Bool, true, false, ℕ, zero, suc, ◌+◌, ◌/◌, ◌%◌, ◌^◌, arith, ltb, ℤ, pos, negsuc}
-use Rattle.rules.specs.Bytes.{if◌then◌else◌, ascii, join, has}
+use Rattle.rules.specs.Bytes.{ascii, join, has}
 use Rattle.rules.specs.Digits.{digit, digits_in, digits, signed_digits, hex_digit, hex, last_digits, Decimal, fraction, sign, decimal_text}
 use Rattle.rules.specs.Sizes.{opacity_text, em_text}
 use Rattle.rules.specs.Tree.{Styles}

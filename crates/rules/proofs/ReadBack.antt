@@ -1,6 +1,7 @@
 -- The body of an accepted file, read back, is a newline and then the plain page, in today's mode and in strict mode.
+use Rattle.std.specs.Prelude.{if◌then◌else◌}
 use Rattle.rules.proofs.Basics.{◌≡◌, refl, List, [], ◌∷◌, append-nil, Bool, true, false, ℕ, eqb, take, eqb-true, not-true}
-use Rattle.rules.specs.Bytes.{if◌then◌else◌, ascii, join, has, newline}
+use Rattle.rules.specs.Bytes.{ascii, join, has, newline}
 use Rattle.rules.specs.Result.{Result, accepted}
 use Rattle.rules.specs.Walk.{Fields, end, bytes, inside, Holder, content, anchor_content}
 use Rattle.rules.specs.Tree.{Frag}

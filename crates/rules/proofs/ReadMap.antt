@@ -1,6 +1,7 @@
 -- Naturality of reading, for any content: the tree of a mapped file is the mapped tree, and a refusal stays what it is.
+use Rattle.std.specs.Prelude.{if◌then◌else◌}
 use Rattle.rules.proofs.Basics.{◌≡◌, refl, ◌∙◌, ap, ap₂, List, [], ◌∷◌, map, Option, none, some, Option·map, Bool, true, false, ℕ, zero, suc, ◌+◌, eqb, length, length-map}
-use Rattle.rules.specs.Bytes.{if◌then◌else◌, has}
+use Rattle.rules.specs.Bytes.{has}
 use Rattle.rules.specs.Result.{Result, refused, accepted, ◌>>=◌, ◌>>◌}
 use Rattle.rules.specs.Walk.{Fields, end, bytes, inside, Holder, in_fragment, Field, Value, of_bytes, of_fields, put, Content, front, front_to, valued, walk, walk_to, check, check_to, tags, holds}
 use Rattle.rules.specs.Tree.{map_fields, text, space, force, if_block, Kind, Frag, leaf, block, Frags, frag, bytes_of, fields_of, or_empty, run_of, runs_of, anchor_of, frag_of, frags_of, read, read_to}

@@ -1,7 +1,8 @@
 -- Refusals: a refused file's place is at most its length, and its number is one of the walk's.
+use Rattle.std.specs.Prelude.{if◌then◌else◌}
 use Rattle.rules.proofs.Basics.{◌≡◌, refl, sym, List, [], ◌∷◌, ◌++◌, map, Option, none, some, Bool, true, false, not, ◌||◌, inl, inr, ◌⊎◌, ℕ, zero, suc, ◌+◌, ◌≤◌, ◌<◌, le_refl, arith, leb, eqb, length, take, leb-true, leb-false}
 use Rattle.rules.specs.Limits.{most_bytes}
-use Rattle.rules.specs.Bytes.{if◌then◌else◌, has}
+use Rattle.rules.specs.Bytes.{has}
 use Rattle.rules.specs.Result.{Result, refused, accepted, ◌>>=◌, ◌>>◌, need, Check, ◌or_refuse◌, sound}
 use Rattle.rules.specs.Walk.{Fields, Holder, in_fragment, in_block, in_text, in_anchor, in_styles, front, front_to, Content, valued, walk, walk_to, check_to, text_content, anchor_content, content, is_text, strict_content, content_in, complete, tags, holds}
 use Rattle.rules.specs.Tree.{Frag, read, read_to, frag_of}

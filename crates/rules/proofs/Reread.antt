@@ -1,8 +1,9 @@
 -- Bytes outside texts decide how a file is read: a second reading of it that has the same bytes outside texts gives the same fields and the same
 -- tree, if it is accepted at all, or if texts are as asked by it.
+use Rattle.std.specs.Prelude.{if◌then◌else◌}
 use Rattle.rules.proofs.Basics.{◌≡◌, refl, sym, ◌∙◌, ap, ap₂, subst, List, [], ◌∷◌, ◌++◌, map, Option, none, some, Option·map, Bool, true, false, and-eq-true_iff, ◌⊎◌, inl, inr, ℕ, zero, suc, ◌+◌, ◌≤◌, ◌<◌, le_refl, arith, leb, ltb, eqb, length, take, drop, replicate, length-append, length-replicate, take-append-drop, leb-true, eqb-true, ne_eqb}
 use Rattle.rules.specs.Limits.{most_bytes, first_style, last_style}
-use Rattle.rules.specs.Bytes.{if◌then◌else◌, within, has, number}
+use Rattle.rules.specs.Bytes.{within, has, number}
 use Rattle.rules.specs.Result.{Result, accepted, ◌>>=◌, ◌>>◌, need, Check, sound}
 use Rattle.rules.specs.Walk.{Fields, end, bytes, inside, Holder, in_fragment, in_styles, Field, Value, of_bytes, of_fields, put, front, front_to, Content, valued, walk, walk_to, check, check_to, tags, holds, allowed, allowed_to, is_text}
 use Rattle.rules.specs.Tree.{Frag, text, anchor, space, force, if_block, leaf, block, frag, indented, flexible, map_fields, bytes_of, fields_of, or_empty, run_of, runs_of, anchor_of, frag_of, frags_of, read, read_to}

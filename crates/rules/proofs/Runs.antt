@@ -1,7 +1,7 @@
 -- Running line operations: one list after the other, and the indent on the way.
+use Rattle.std.specs.Prelude.{if◌then◌else◌}
 use Rattle.rules.proofs.Basics.{◌≡◌, refl, sym, ◌∙◌, ap, List, [], ◌∷◌, ◌++◌, append_assoc, Bool, true, false, ◌&&◌, ℕ, suc, ◌≤◌, arith, eqb}
 use native.Mathlib.Nat.{pred-le}
-use Rattle.rules.specs.Bytes.{if◌then◌else◌}
 use Rattle.rules.specs.Lines.{LineOp, part, mark, empty_anchor, new_line, break, indent, unindent, Break, Machine, Item, char, marked, made, copied, ignored, target, item, broken, step, run, after}
 use Rattle.rules.specs.Plain.{chars, fill}
 use Rattle.rules.specs.Answers.{itself}

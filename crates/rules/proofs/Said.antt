@@ -1,7 +1,8 @@
 -- What a tree says, however it is laid out: the bytes of its texts, pushes and pops, in the order of the file. Its characters are the file's texts.
+use Rattle.std.specs.Prelude.{if◌then◌else◌}
 use Rattle.rules.proofs.Basics.{◌≡◌, refl, sym, ◌∙◌, ap, ap₂, List, [], ◌∷◌, ◌++◌, map, append-nil, Option, none, some, Bool, true, false, and-eq-true_iff, ℕ, ◌≤◌, ◌<◌, arith, leb, ltb, eqb, leb-true, ne_eqb}
 use Rattle.rules.specs.Limits.{first_style, last_style}
-use Rattle.rules.specs.Bytes.{if◌then◌else◌, within}
+use Rattle.rules.specs.Bytes.{within}
 use Rattle.rules.specs.Walk.{Fields, end, bytes, inside, in_fragment, in_block, in_text, in_anchor, in_styles, holds, allowed, allowed_to, is_text}
 use Rattle.rules.specs.Tree.{styles_of, Run, Leaf, text, anchor, space, force, if_block, indented, flexible, Frag, stop, leaf, block, Frags, none_left, frag}
 use Rattle.rules.specs.Encode.{run_fields, runs_fields, anchor_tag, leaf_fields, block_tag, frag_fields, frags_fields}

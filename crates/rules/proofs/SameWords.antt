@@ -1,6 +1,7 @@
 -- THE SAME WORDS AT EVERY WIDTH: layout turns the tags of blocks alone, and those give breaks and indents alone.
+use Rattle.std.specs.Prelude.{if◌then◌else◌}
 use Rattle.rules.proofs.Basics.{◌≡◌, refl, sym, ◌∙◌, ap, ap₂, List, [], ◌∷◌, ◌++◌, append_assoc, Option, none, some, Bool, true, false, ◌||◌, ◌&&◌, and-eq-true_iff, or-true, ℕ, eqb}
-use Rattle.rules.specs.Bytes.{if◌then◌else◌, newline}
+use Rattle.rules.specs.Bytes.{newline}
 use Rattle.rules.specs.Result.{accepted, ◌>>=◌}
 use Rattle.rules.specs.Walk.{Fields, bytes}
 use Rattle.rules.specs.Tree.{styles_of, Run, Leaf, text, anchor, space, force, if_block, indented, flexible, Frag, Frags}

@@ -1,7 +1,8 @@
 -- Layout with a stretch ahead (`Ahead`), which the code follows, is the layout of `Layout`, on every fragment.
+use Rattle.std.specs.Prelude.{if◌then◌else◌}
 use Rattle.rules.proofs.Basics.{max, ◌-◌, ◌≡◌, refl, ap, ap₂, ◌∙◌, List, [], ◌∷◌, ◌++◌, append-nil, Option, none, Bool, true, false, ℕ, ◌+◌, ◌*◌, ◌≤◌, min, arith, leb, length, leb-true, leb-false}
 use Rattle.rules.specs.Limits.{indentation, most_tenths}
-use Rattle.rules.specs.Bytes.{if◌then◌else◌, cap}
+use Rattle.rules.specs.Bytes.{cap}
 use Rattle.rules.specs.Walk.{Fields}
 use Rattle.rules.specs.Tree.{Run, Leaf, text, anchor, space, force, if_block, Kind, indented, flexible, Frag, stop, leaf, block, Frags, none_left, frag}
 use Rattle.rules.specs.Layout.{Shape, Inline, Block, ◌⊕◌, styled_width, width, last, parts, parts_shape, only_if_block, room, kept_inline, chosen, rigid_text, rigid_runs, rigid, rigid_block, Node, a_leaf, a_block, before, Flexible, SoFar, leaf_flexible, block_flexible, in_turn, nothing_yet, and_node, at_end, fragment_layout, fragments_layout, layout}

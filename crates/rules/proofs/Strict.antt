@@ -1,6 +1,7 @@
 -- Strict mode accepts exactly the files that are accepted and have no NUL in a text, as the same tree.
+use Rattle.std.specs.Prelude.{if◌then◌else◌}
 use Rattle.rules.proofs.Basics.{◌≡◌, refl, sym, ap, subst, List, [], ◌∷◌, ◌++◌, Bool, true, false, not, ◌||◌, ◌↔◌, ℕ, zero, suc, ◌<◌, arith, eqb, length, get_or, replicate, length-append, length-replicate, ne_eqb, eqb-false, not-true}
-use Rattle.rules.specs.Bytes.{if◌then◌else◌, has}
+use Rattle.rules.specs.Bytes.{has}
 use Rattle.rules.specs.Result.{accepted, Check, ◌or_refuse◌, ◌>>=◌}
 use Rattle.rules.specs.Walk.{Fields, end, bytes, inside, Holder, in_fragment, content, is_text, strict_content}
 use Rattle.rules.specs.Tree.{Frag}

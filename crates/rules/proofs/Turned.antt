@@ -1,6 +1,6 @@
 -- The bytes that layout changes: each is a tag 4 that becomes a 3, and the answer is how many.
+use Rattle.std.specs.Prelude.{if◌then◌else◌}
 use Rattle.rules.proofs.Basics.{◌≡◌, refl, sym, ◌∙◌, ap, List, [], ◌∷◌, ◌++◌, Bool, true, false, inl, inr, ℕ, suc, ◌+◌, ◌/◌, ◌%◌, arith, eqb, length, length-append, eq-eqb}
-use Rattle.rules.specs.Bytes.{if◌then◌else◌}
 use Rattle.rules.specs.Walk.{Fields}
 use Rattle.rules.specs.Tree.{Leaf, text, anchor, space, force, if_block, Kind, indented, flexible, Frag, stop, leaf, block, Frags, none_left, frag}
 use Rattle.rules.specs.Encode.{field, encode_fields, frag_fields, frags_fields, leaf_fields, block_tag, encode, runs_fields, anchor_tag}

@@ -1,8 +1,9 @@
 -- The tree of good fields loses nothing: its fields are those fields.
+use Rattle.std.specs.Prelude.{if◌then◌else◌}
 use Rattle.rules.proofs.Basics.{◌≡◌, refl, sym, ◌∙◌, ap, ap₂, subst, subst⁻¹, List, [], ◌∷◌, none, some, ◌⊎◌, inl, inr, ⊎_elim, Bool, true, false, ◌&&◌, ◌||◌, and-eq-true_iff, ℕ, suc, ◌≤◌, ◌<◌, arith, leb, eqb, length, leb-true, eqb-true, ne_eqb}
 use mathlib.Core.Logic.{dite}
 use native.Mathlib.Decide.{ℕ_discrete}
-use Rattle.rules.specs.Bytes.{if◌then◌else◌, has}
+use Rattle.rules.specs.Bytes.{has}
 use Rattle.rules.specs.Walk.{Fields, end, bytes, inside, Holder, in_fragment, in_block, in_text, in_anchor, Content, content, complete, tags, holds, allowed, allowed_to, right_length}
 use Rattle.rules.specs.Tree.{Run, space, force, if_block, frag_of, frags_of, run_of, runs_of, anchor_of, map_fields, bytes_of, fields_of, or_empty}
 use Rattle.rules.specs.Encode.{frag_fields, frags_fields, leaf_fields, run_fields, runs_fields, anchor_tag, block_tag}

@@ -1,6 +1,7 @@
 -- What the line machine adds is white: of a run shows what its operations hold themselves.
+use Rattle.std.specs.Prelude.{if◌then◌else◌}
 use Rattle.rules.proofs.Basics.{◌≡◌, refl, ◌∙◌, ap, List, [], ◌∷◌, ◌++◌, Option, none, some, Bool, true, false, ℕ, zero, suc, ◌-◌, ◌*◌, ltb, replicate}
-use Rattle.rules.specs.Bytes.{if◌then◌else◌, newline}
+use Rattle.rules.specs.Bytes.{newline}
 use Rattle.rules.specs.Lines.{LineOp, part, mark, empty_anchor, new_line, break, indent, unindent, open_anchor, close_anchor, Break, a_space, a_newline, Line, empty, indented_by, has_text, Machine, Out, char, marked, made, copied, ignored, target, making, release, levels, spacing, item, broken, step, run}
 use Rattle.rules.specs.Plain.{chars, fill}
 use Rattle.rules.specs.Answers.{itself}

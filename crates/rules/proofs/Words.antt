@@ -1,9 +1,9 @@
 -- The file check's tests of opacities and sizes are document 01's words: each passes exactly where the value is one of those that are accepted.
+use Rattle.std.specs.Prelude.{if◌then◌else◌}
 use Rattle.rules.proofs.Basics.{◌≡◌, refl, sym, ◌∙◌, subst, ◌↔◌, inl, inr, ⊎_elim, Bool, true, false, ◌&&◌, ◌||◌, or-true, or-false, false≢true, ℕ, suc, ◌*◌, ◌-◌, ◌^◌, ◌≤◌, dec_le, arith, T, leb, ltb, eqb, pos, negsuc, leb-true, ltb-true, ltb-false, eqb-true, le-leb, lt-leb}
 use native.Mathlib.Nat.{mul-le-mul_left}
 use lib.Ieee.{Format, binary32, low}
 use lib.Signed.{le_z, le_z_yes}
-use Rattle.rules.specs.Bytes.{if◌then◌else◌}
 use Rattle.rules.specs.Digits.{signed}
 use Rattle.rules.specs.Float.{mag}
 use Rattle.rules.specs.Values.{pattern, ZeroOrInRange, OpacityAllowed, SizeAllowed}

@@ -1,7 +1,7 @@
 -- What each public entry answers, and what it leaves in the slice that it is lent: for every file, width and page buffer.
-use Rattle.std.specs.Prelude.{List, [], ◌∷◌, ◌++◌, Bool, true, false, ℕ, suc, ◌+◌, ◌*◌, ◌/◌, ◌%◌, leb, eqb, length, drop}
+use Rattle.std.specs.Prelude.{List, [], ◌∷◌, ◌++◌, Bool, true, false, ℕ, suc, ◌+◌, ◌*◌, ◌/◌, ◌%◌, leb, eqb, length, drop, if◌then◌else◌}
 use Rattle.rules.specs.Limits.{most_bytes, most_columns}
-use Rattle.rules.specs.Bytes.{if◌then◌else◌, newline}
+use Rattle.rules.specs.Bytes.{newline}
 use Rattle.rules.specs.Result.{Result, refused, accepted, ◌>>=◌, ◌>>◌, need}
 use Rattle.rules.specs.Walk.{content, strict_content}
 use Rattle.rules.specs.Tree.{Frag, read}

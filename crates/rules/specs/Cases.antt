@@ -1,8 +1,8 @@
 -- Document 01's checked examples as a list of cases: what is asked, of which file, and what is right.
-use Rattle.std.specs.Prelude.{List, [], ◌∷◌, ◌&&◌, ℕ, zero, suc, ◌+◌, ◌*◌, ◌-◌, leb, ℤ, pos, negsuc}
+use Rattle.std.specs.Prelude.{List, [], ◌∷◌, ◌&&◌, ℕ, zero, suc, ◌+◌, ◌*◌, ◌-◌, leb, ℤ, pos, negsuc, if◌then◌else◌}
 use Rattle.std.proofs.Math.Option.{Option, none, some}
 use Prim.Native.String.{String}
-use Rattle.rules.specs.Bytes.{if◌then◌else◌, ascii}
+use Rattle.rules.specs.Bytes.{ascii}
 use Rattle.rules.specs.Result.{Result, refused, accepted, ◌>>=◌}
 use Rattle.rules.specs.Encode.{encode, field}
 use Rattle.rules.specs.Sizes.{em_text, opacity_text}

@@ -1,6 +1,5 @@
 -- Numbers as texts: decimal digits, signed bytes, two hexadecimal digits, decimals with a point.
-use Rattle.std.specs.Prelude.{List, [], ◌∷◌, ◌++◌, Bool, true, false, ℕ, zero, suc, ◌+◌, ◌-◌, ◌/◌, ◌%◌, ◌^◌, ltb, ℤ, pos, negsuc}
-use Rattle.rules.specs.Bytes.{if◌then◌else◌}
+use Rattle.std.specs.Prelude.{List, [], ◌∷◌, ◌++◌, Bool, true, false, ℕ, zero, suc, ◌+◌, ◌-◌, ◌/◌, ◌%◌, ◌^◌, ltb, ℤ, pos, negsuc, if◌then◌else◌}
 
 abbrev pub digit : ℕ → ℕ
 digit d = 48 + d

@@ -1,8 +1,7 @@
 -- Good trees: what the fields of a tree must be to stand in a file, said apart from the walk, without places and without an order.
-use Rattle.std.specs.Prelude.{◌≡◌, List, [], ◌∷◌, true, false, ◌&&◌, ℕ, suc, ◌<◌, ◌≤◌, leb, length}
+use Rattle.std.specs.Prelude.{◌≡◌, List, [], ◌∷◌, true, false, ◌&&◌, ℕ, suc, ◌<◌, ◌≤◌, leb, length, if◌then◌else◌}
 use Rattle.std.proofs.Math.Option.{none, some}
 use Rattle.rules.specs.Limits.{most_bytes, most_blocks}
-use Rattle.rules.specs.Bytes.{if◌then◌else◌}
 use Rattle.rules.specs.Result.{Check, ◌or_refuse◌}
 use Rattle.rules.specs.Walk.{Fields, end, bytes, inside, Holder, in_fragment, Content, content, complete, tags, holds, allowed, right_length, is_block}
 use Rattle.rules.specs.Tree.{Frag}

@@ -1,8 +1,8 @@
 -- The HTML body and document.
-use Rattle.std.specs.Prelude.{List, [], ◌∷◌, ◌++◌, map, Bool, true, false, ◌||◌, ℕ, eqb, ℤ, pos, ◌+ℤ◌, ◌*ℤ◌}
+use Rattle.std.specs.Prelude.{List, [], ◌∷◌, ◌++◌, map, Bool, true, false, ◌||◌, ℕ, eqb, ℤ, pos, ◌+ℤ◌, ◌*ℤ◌, if◌then◌else◌}
 use Rattle.std.proofs.Math.Option.{Option, none, some}
 use Prim.Native.String.{String}
-use Rattle.rules.specs.Bytes.{if◌then◌else◌, ascii, join}
+use Rattle.rules.specs.Bytes.{ascii, join}
 use Rattle.rules.specs.Digits.{hex, digits, signed_digits}
 use Rattle.rules.specs.Sizes.{opacity_text, em_text}
 use Rattle.rules.specs.Tree.{Styles, Frag}

@@ -1,8 +1,8 @@
 -- Widths in tenths of a column, shapes, and layout: rigid, flexible, a fragment's.
-use Rattle.std.specs.Prelude.{List, [], ◌∷◌, ◌++◌, Bool, true, false, ◌||◌, ℕ, ◌+◌, ◌*◌, ◌-◌, max, leb, length, ℤ, pos, negsuc, ◌+ℤ◌}
+use Rattle.std.specs.Prelude.{List, [], ◌∷◌, ◌++◌, Bool, true, false, ◌||◌, ℕ, ◌+◌, ◌*◌, ◌-◌, max, leb, length, ℤ, pos, negsuc, ◌+ℤ◌, if◌then◌else◌}
 use Rattle.std.proofs.Math.Option.{Option, none, some}
 use Rattle.rules.specs.Limits.{indentation}
-use Rattle.rules.specs.Bytes.{if◌then◌else◌, cap}
+use Rattle.rules.specs.Bytes.{cap}
 use Rattle.rules.specs.Walk.{Fields}
 use Rattle.rules.specs.Tree.{Styles, styles_of, Run, Leaf, text, anchor, space, force, if_block, Kind, indented, flexible, Frag, stop, leaf, block, Frags, none_left, frag}
 

@@ -1,6 +1,5 @@
 -- Marks beside a file: a bit for each place, 64 in a word. Where one is set, a 3 stands in place of the byte.
-use Rattle.std.specs.Prelude.{List, [], ◌∷◌, Bool, ℕ, suc, ◌/◌, ◌%◌, ◌^◌, eqb, get_or}
-use Rattle.rules.specs.Bytes.{if◌then◌else◌}
+use Rattle.std.specs.Prelude.{List, [], ◌∷◌, Bool, ℕ, suc, ◌/◌, ◌%◌, ◌^◌, eqb, get_or, if◌then◌else◌}
 
 -- the bit of a place
 abbrev pub bit_at : List ℕ → (at : ℕ) → ℕ

@@ -1,6 +1,6 @@
 -- Demand 3's words: bytes inside texts, files that are equal but for those, and the mask that keeps every length and every newline.
-use Rattle.std.specs.Prelude.{◌≡◌, List, [], ◌∷◌, ◌++◌, map, Bool, true, false, ℕ, ◌<◌, eqb, length, get_or, replicate}
-use Rattle.rules.specs.Bytes.{if◌then◌else◌, has}
+use Rattle.std.specs.Prelude.{◌≡◌, List, [], ◌∷◌, ◌++◌, map, Bool, true, false, ℕ, ◌<◌, eqb, length, get_or, replicate, if◌then◌else◌}
+use Rattle.rules.specs.Bytes.{has}
 use Rattle.rules.specs.Result.{Result, refused, accepted}
 use Rattle.rules.specs.Walk.{Fields, end, bytes, inside, is_text, content, check}
 use Rattle.rules.specs.Answers.{itself}

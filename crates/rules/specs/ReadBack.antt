@@ -1,6 +1,6 @@
 -- HTML read back, by its bytes and apart from how pages are written: references stand for their bytes, and tags show nothing.
-use Rattle.std.specs.Prelude.{◌≡◌, List, [], ◌∷◌, ◌++◌, Bool, true, false, ◌&&◌, ◌||◌, ℕ, eqb}
-use Rattle.rules.specs.Bytes.{if◌then◌else◌, ascii}
+use Rattle.std.specs.Prelude.{◌≡◌, List, [], ◌∷◌, ◌++◌, Bool, true, false, ◌&&◌, ◌||◌, ℕ, eqb, if◌then◌else◌}
+use Rattle.rules.specs.Bytes.{ascii}
 
 -- where reading stands: in text; in a reference, with its bytes so far; in a tag; in an attribute's value
 pub data Reading : Type 0 where

@@ -1,7 +1,7 @@
 -- Request E12's words: what a page says at every width. That is its items without spaces and newlines, in their order.
-use Rattle.std.specs.Prelude.{◌≡◌, List, [], ◌∷◌, ◌++◌, Bool, true, false, ◌&&◌, ◌||◌, not, ℕ, ◌+◌, ◌*◌, ◌≤◌, ◌<◌, eqb}
+use Rattle.std.specs.Prelude.{◌≡◌, List, [], ◌∷◌, ◌++◌, Bool, true, false, ◌&&◌, ◌||◌, not, ℕ, ◌+◌, ◌*◌, ◌≤◌, ◌<◌, eqb, if◌then◌else◌}
 use Rattle.rules.specs.Limits.{plain_per_byte, html_per_byte, html_frame}
-use Rattle.rules.specs.Bytes.{if◌then◌else◌, newline}
+use Rattle.rules.specs.Bytes.{newline}
 use Rattle.rules.specs.Result.{Result, refused, accepted, ◌>>=◌}
 use Rattle.rules.specs.Walk.{Fields, end, bytes, inside, content, check, is_text}
 use Rattle.rules.specs.Lines.{Mark, Item, char, marked, made, copied, items}

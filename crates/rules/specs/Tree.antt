@@ -1,9 +1,9 @@
 -- The tree of a fragment file. X is what stands for a byte of a text or an anchor: the byte itself, or its place in the file.
-use Rattle.std.specs.Prelude.{List, [], ◌∷◌, map, Bool, true, false, ℕ, eqb, ℤ}
+use Rattle.std.specs.Prelude.{List, [], ◌∷◌, map, Bool, true, false, ℕ, eqb, ℤ, if◌then◌else◌}
 use Rattle.std.proofs.Math.Option
 use Rattle.std.proofs.Math.Option.{Option, none, some}
 use Rattle.rules.specs.Limits.{last_style}
-use Rattle.rules.specs.Bytes.{if◌then◌else◌, has, number}
+use Rattle.rules.specs.Bytes.{has, number}
 use Rattle.rules.specs.Digits.{signed}
 use Rattle.rules.specs.Result.{Result, accepted, ◌>>=◌}
 use Rattle.rules.specs.Walk.{Fields, end, bytes, inside, tags, Content, check_to}

@@ -1,7 +1,7 @@
 -- UTF-8, as the grammar of RFC 3629, section 4.
-use Rattle.std.specs.Prelude.{List, [], ◌∷◌, Bool, true, false, ◌&&◌, ℕ}
+use Rattle.std.specs.Prelude.{List, [], ◌∷◌, Bool, true, false, ◌&&◌, ℕ, if◌then◌else◌}
 use Rattle.std.proofs.Math.Option.{Option, none, some}
-use Rattle.rules.specs.Bytes.{if◌then◌else◌, within}
+use Rattle.rules.specs.Bytes.{within}
 
 infix 70 ◌to◌
 pub data Range : Type 0 where

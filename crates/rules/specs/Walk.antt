@@ -1,9 +1,9 @@
 -- The file check: house fields, what may stand where, and the walk from the front with refusals 1 and 3 to 9.
 -- X is what stands for a byte of the file: the byte itself, or its place in the file.
-use Rattle.std.specs.Prelude.{List, [], ◌∷◌, ◌++◌, map, Bool, true, false, ◌&&◌, ◌||◌, not, ℕ, zero, suc, ◌+◌, ◌-◌, leb, ltb, eqb, length, take, drop}
+use Rattle.std.specs.Prelude.{List, [], ◌∷◌, ◌++◌, map, Bool, true, false, ◌&&◌, ◌||◌, not, ℕ, zero, suc, ◌+◌, ◌-◌, leb, ltb, eqb, length, take, drop, if◌then◌else◌}
 use Rattle.std.proofs.Math.Option.{Option, none, some}
 use Rattle.rules.specs.Limits.{most_bytes, most_blocks, first_style, last_style}
-use Rattle.rules.specs.Bytes.{if◌then◌else◌, within, has, number}
+use Rattle.rules.specs.Bytes.{within, has, number}
 use Rattle.rules.specs.Utf8.{utf8}
 use Rattle.rules.specs.Result.{Result, accepted, ◌>>=◌, ◌>>◌, need, Check, ◌or_refuse◌, sound}
 

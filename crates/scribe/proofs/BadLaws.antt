@@ -1,6 +1,7 @@
 -- A style's checks, by its record: 8 where a value is not right, where an opacity has no colour, or where there are both scripts.
+use Rattle.std.specs.Prelude.{if◌then◌else◌}
 use Rattle.rules.proofs.Basics.{◌≡◌, refl, sym, ap, ◌∙◌, List, [], ◌∷◌, ◌++◌, append-nil, append_assoc, ℕ, arith, Bool, true, false, ◌&&◌, ◌||◌, not, not-false, eqb}
-use Rattle.rules.specs.Bytes.{if◌then◌else◌, has, number, number_from}
+use Rattle.rules.specs.Bytes.{has, number, number_from}
 use Rattle.rules.specs.Result.{Check, ◌or_refuse◌}
 use Rattle.rules.specs.Walk.{Fields, end, content, complete, tags, right_opacity, right_size}
 use Rattle.scripts.specs.Steps.{value_checks, style_checks}

@@ -1,7 +1,8 @@
 -- The number of the first check that fails: of texts, of names, of one list of checks behind another.
+use Rattle.std.specs.Prelude.{if◌then◌else◌}
 use Rattle.rules.proofs.Basics.{◌≡◌, refl, sym, ◌∙◌, List, [], ◌∷◌, ◌++◌, ℕ, ◌<◌, ◌≤◌, arith, Bool, true, false, not, eqb, ◌||◌}
 use Rattle.rules.proofs.Chains.{no_path}
-use Rattle.rules.specs.Bytes.{if◌then◌else◌, has, number}
+use Rattle.rules.specs.Bytes.{has, number}
 use Rattle.rules.specs.Result.{Check, ◌or_refuse◌}
 use Rattle.rules.specs.Utf8.{utf8}
 use Rattle.rules.specs.Walk.{Fields, end, bytes, inside, content, text_content, anchor_content, complete, right_opacity, right_size}

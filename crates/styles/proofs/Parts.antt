@@ -1,6 +1,6 @@
 -- What one field makes of a style, by whether its value counts.
+use Rattle.std.specs.Prelude.{if◌then◌else◌}
 use Rattle.rules.proofs.Basics.{◌≡◌, refl, sym, ap, ◌∙◌, List, Bool, true, false, ℕ, length, eq-eqb, ne_eqb}
-use Rattle.rules.specs.Bytes.{if◌then◌else◌}
 use Rattle.rules.specs.Walk.{right_length}
 use Rattle.rules.specs.Tree.{Styles}
 use Rattle.styles.specs.StylesIn.{right_value, put_part, with_field}

@@ -1,8 +1,9 @@
 -- The style read from the bytes of good fields is the one that the rules read from those fields.
+use Rattle.std.specs.Prelude.{if◌then◌else◌}
 use Rattle.rules.proofs.Basics.{◌≡◌, refl, sym, ap, ◌∙◌, List, [], ◌++◌, append_assoc, Option, none, some, Option·map, Bool, true, false, ◌&&◌, ◌||◌, and-eq-true_iff, or-false, ℕ, zero, suc, ◌+◌, ◌≤◌, ◌<◌, arith, leb, ltb, eqb, length, length-append, leb-true, ltb-true, eqb-true, ne_eqb, lt-leb}
 use mathlib.Core.Bool.{or_assoc, or_comm}
 use Rattle.rules.specs.Limits.{first_style, last_style}
-use Rattle.rules.specs.Bytes.{if◌then◌else◌, within, has, number}
+use Rattle.rules.specs.Bytes.{within, has, number}
 use Rattle.rules.specs.Walk.{Fields, end, bytes, inside, Holder, in_styles, allowed, allowed_to, holds, content, right_length, right_opacity, right_size, tags}
 use Rattle.rules.specs.Tree.{Styles, bytes_of, signed_byte, styles_of}
 use Rattle.rules.specs.Encode.{field, encode_fields}

@@ -1,8 +1,9 @@
 -- A style that was read has a text in HTML: its opacity and its size are allowed.
+use Rattle.std.specs.Prelude.{if◌then◌else◌}
 use Rattle.rules.proofs.Basics.{◌≡◌, refl, sym, List, Option, none, some, Bool, true, false, ◌||◌, and-eq-true_iff, ℕ, zero, suc, ◌-◌, eqb, length, take, drop, ℤ, eqb-true}
 use lib.Signed.{le_z_yes}
 use Rattle.rules.proofs.Words.{size_words}
-use Rattle.rules.specs.Bytes.{if◌then◌else◌, number}
+use Rattle.rules.specs.Bytes.{number}
 use Rattle.rules.specs.Walk.{right_length, right_opacity, right_size}
 use Rattle.rules.specs.Tree as rules
 use Rattle.rules.specs.Tree.{signed_byte}

@@ -1,7 +1,7 @@
 -- The width of one byte, read alone: what a field makes of it, and the walk over the fields.
+use Rattle.std.specs.Prelude.{if◌then◌else◌}
 use Rattle.rules.proofs.Basics.{◌≡◌, refl, sym, ap, ◌∙◌, List, Option, none, some, Bool, true, false, ◌||◌, ℕ, suc, ◌+◌, ◌-◌, ◌%◌, ◌≤◌, ◌<◌, arith, ltb, eqb, leb→le, ℤ, pos, negsuc, length, take, drop, get_or, eq-eqb, ne_eqb, le-ltb}
 use mathlib.Core.Bool.{cond}
-use Rattle.rules.specs.Bytes.{if◌then◌else◌}
 use Rattle.rules.specs.Digits.{signed}
 use Rattle.rules.specs.Walk.{right_length, right_size}
 use Rattle.rules.specs.Tree.{Styles, signed_byte}

@@ -1,7 +1,7 @@
 -- What the fields of some bytes make of a style, put in from the front.
-use Rattle.std.specs.Prelude.{List, ◌≡◌, Bool, false, ◌&&◌, ◌||◌, ℕ, zero, suc, ◌-◌, eqb, length, take, drop}
+use Rattle.std.specs.Prelude.{List, ◌≡◌, Bool, false, ◌&&◌, ◌||◌, ℕ, zero, suc, ◌-◌, eqb, length, take, drop, if◌then◌else◌}
 use Rattle.std.proofs.Math.Option.{none, some}
-use Rattle.rules.specs.Bytes.{if◌then◌else◌, number}
+use Rattle.rules.specs.Bytes.{number}
 use Rattle.rules.specs.Walk.{right_length, right_opacity, right_size}
 use Rattle.rules.specs.Tree.{Styles, signed_byte}
 use Rattle.fields.specs.declared.Field.{Field}

@@ -1,7 +1,6 @@
 -- The width of a byte under the style that the fields of some bytes say, put in from the front as one number.
-use Rattle.std.specs.Prelude.{List, ◌||◌, ℕ, ◌+◌, ltb, eqb, length, ℤ}
+use Rattle.std.specs.Prelude.{List, ◌||◌, ℕ, ◌+◌, ltb, eqb, length, ℤ, if◌then◌else◌}
 use Rattle.std.proofs.Math.Option.{Option, none, some}
-use Rattle.rules.specs.Bytes.{if◌then◌else◌}
 use Rattle.rules.specs.Tree.{Styles, signed_byte}
 use Rattle.rules.specs.Layout.{byte_width, effective}
 use Rattle.styles.specs.StylesIn.{right_value}

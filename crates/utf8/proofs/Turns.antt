@@ -1,6 +1,7 @@
 -- A turn of the loops: one byte taken from what is left of the slice.
+use Rattle.std.specs.Prelude.{if◌then◌else◌}
 use Rattle.rules.proofs.Basics.{◌≡◌, refl, sym, ap, List, [], ◌∷◌, none, some, Bool, true, false, ◌&&◌, ℕ, suc, ◌+◌, ◌≤◌, ◌<◌, add-one, length, drop, get_or, drop_of_length-le, drop-cons, eq-eqb, ne_eqb}
-use Rattle.rules.specs.Bytes.{if◌then◌else◌, has}
+use Rattle.rules.specs.Bytes.{has}
 use Rattle.rules.specs.Utf8.{Range, in_range, begun, utf8, utf8_after}
 use Rattle.utf8.specs.Answer.{utf8_answer, sound_if}
 use Rattle.utf8.specs.Owing.{ranges, wanted, wanted_by, after}

@@ -1,7 +1,6 @@
 -- What a character that has begun still wants: the ranges that the code's three numbers stand for, and how a byte changes them.
-use Rattle.std.specs.Prelude.{List, [], ◌∷◌, ℕ, zero, suc, replicate}
+use Rattle.std.specs.Prelude.{List, [], ◌∷◌, ℕ, zero, suc, replicate, if◌then◌else◌}
 use Rattle.std.proofs.Math.Option.{Option, none, some}
-use Rattle.rules.specs.Bytes.{if◌then◌else◌}
 use Rattle.rules.specs.Utf8.{Range, ◌to◌, in_range, following}
 use Rattle.utf8.specs.declared.Owed.{Owed}
 use Rattle.utf8.specs.declared.Begun.{Begun}

@@ -1,7 +1,8 @@
 -- The table of fields, where a tag is none of those that a branch has tested.
+use Rattle.std.specs.Prelude.{if◌then◌else◌}
 use Rattle.rules.proofs.Basics.{◌≡◌, refl, sym, ◌∙◌, Bool, true, false, ◌&&◌, ◌||◌, ℕ, ◌≤◌, ◌<◌, arith, leb, ltb, eqb, le-leb, lt-leb, ne_eqb, eq-eqb, leb-true, eqb-true, eqb-false}
 use Rattle.rules.specs.Limits.{first_style, last_style}
-use Rattle.rules.specs.Bytes.{if◌then◌else◌, within}
+use Rattle.rules.specs.Bytes.{within}
 use Rattle.rules.specs.Walk.{Holder, allowed, allowed_to, right_length, is_block, in_fragment, in_anchor, in_styles}
 use Rattle.rules.proofs.Chains.{no_path}
 

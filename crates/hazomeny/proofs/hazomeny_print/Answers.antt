@@ -1,0 +1,12 @@
+-- `hazomeny::hazomeny_print` meets its contract: the answer in one number, which fits 64 bits, and the same bytes.
+use Rattle.rules.proofs.Basics.{arith}
+use Rattle.hazomeny.proofs.Fits.{print_fits, coded_pair}
+use Rattle.hazomeny.proofs.hazomeny_print.Goals as goal
+
+pub in_one-requires : goal.in_one-requires
+in_one-requires c =
+    print_fits _ _ _ c.print_at.ensures
+    (λ i. omega (arith, c.shared_slice_known-1.given i))
+
+pub returns : goal.returns
+returns c = coded_pair _ c.in_one.ensures c.print_at.ensures
