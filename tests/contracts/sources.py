@@ -12,7 +12,7 @@ BRACKETS = {"(": ")", "{": "}"}
 def crates(root):
     for line in (root / "crates.txt").read_text().splitlines():
         if line and not line.startswith("#"):
-            yield line.split(":")[0]
+            yield line.split(":")[0].split()[0]
 
 
 def functions(root):
