@@ -1,11 +1,11 @@
-//! Says where the proved library lies: in the folder that `HAZOMENY_LIB` names, else where `rt staticlib hazomeny` writes it.
+//! Says where the proved library lies: in the folder that `HAZOMENY_LIB` names, else where `tools/library` writes it.
 
 use std::os::unix::process::parent_id;
 use std::path::{Path, PathBuf};
 use std::process::exit;
 use std::{env, fs};
 
-/// Where `rt staticlib hazomeny` writes the library, seen from this folder.
+/// Where `tools/library` writes the library, seen from this folder.
 const DEFAULT: &str = "../../target/staticlib";
 
 fn main() {
@@ -55,7 +55,7 @@ fn find(folder: &Path) -> Result<PathBuf, String> {
     println!("cargo:rerun-if-changed={}", library.display());
     let missing = |why| {
         let library = library.display();
-        format!("{library}: {why}; `rt staticlib hazomeny` makes it, and HAZOMENY_LIB names another folder")
+        format!("{library}: {why}; `tools/library` makes it, and HAZOMENY_LIB names another folder")
     };
     fs::metadata(&library).map_err(missing)?;
     fs::canonicalize(folder).map_err(missing)

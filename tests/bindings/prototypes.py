@@ -11,7 +11,7 @@ import unittest
 sys.dont_write_bytecode = True
 
 ROOT = pathlib.Path(__file__).resolve().parents[2]
-PROVED = (ROOT / "crates" / "hazomeny" / "src" / "lib.rt").read_text()
+PROVED = (ROOT / "crates" / "hazomeny_c" / "src" / "lib.rt").read_text()
 HEADER = (ROOT / "include" / "hazomeny.h").read_text()
 CRATE = ROOT / "bindings" / "rust" / "src"
 RUST = (CRATE / "c.rs").read_text()
@@ -55,7 +55,7 @@ RUST_TYPES = {
 
 def entries(source=PROVED):
     """The name, the parameters and the return type of each entry with a C name."""
-    found = re.findall(r'#\[no_mangle\]\npub extern "C" fn (\w+)\((.*?)\) -> (\w+)\n', source, re.S)
+    found = re.findall(r'#\[unsafe\(no_mangle\)\]\npub extern "C" fn (\w+)\((.*?)\) -> (\w+)\n', source, re.S)
     return [(name, [each.split(": ") for each in one_line(parameters).split(", ")], kind) for name, parameters, kind in found]
 
 
@@ -98,7 +98,7 @@ def declared_in_rust(source):
 
 def numbered(pattern, source):
     """The numbers that the pattern finds in a source, by their names in the proved code."""
-    return {name.replace("-", "_").upper(): int(number.replace("_", "")) for name, number in re.findall(pattern, source, re.M)}
+    return {name.upper(): int(number.replace("_", "")) for name, number in re.findall(pattern, source, re.M)}
 
 
 def constants(source):
@@ -111,7 +111,7 @@ def limits_in_c(header):
 
 
 def limits_in_rules(definitions):
-    return numbered(r"^([a-z-]+) = ([\d_]+)$", definitions)
+    return numbered(r"^([a-z_]+) = ([\d_]+)$", definitions)
 
 
 def steps_in_c(header):

@@ -13,9 +13,10 @@ STUBS = {
     # what it says is what `rt` says
     "bin/rt": """
         echo "rt $*" >>"$CALLS"
-        [ ! -e "$CALLS.broken" ] || { echo "rt: styles NOT PROVED (exit 1, 2 s)"; exit 1; }
-        echo "rt: rules proved (unchanged since it was last proved)"; echo "fn styles::a: proved"; sleep 0.5; echo "rt: styles proved (2 s)"
-        mkdir -p target/staticlib && touch target/staticlib/libhazomeny.a
+        echo "rt: chose --jobs 2 for styles"
+        [ ! -e "$CALLS.broken" ] || { echo "rt: the library styles did not build, so nothing above it was checked"; exit 1; }
+        echo "fn styles::a: proved"; sleep 0.5; echo "crate styles: modules loaded=1 checked=2"; echo "logic=proved functions=1"
+        mkdir -p out && touch out/libhazomeny_c.a
     """,
     "tools/setup": 'echo "setup" >>"$CALLS"',
     "tools/crossed": """
@@ -26,14 +27,15 @@ STUBS = {
         mkdir -p "$into"; printf '#!/bin/sh\\necho "$PWD: $*"; cat\\n' >"$into/hazomeny"; chmod +x "$into/hazomeny"
     """,
 }
-SOURCES = ["crates/styles/src/lib.rt", ".cargo/config.toml", "bindings/rust/src/lib.rs", "bindings/rust/Cargo.toml", "bindings/rust/build.rs",
+SOURCES = ["crates/styles/src/lib.rt", "crates/hazomeny_c/src/lib.rt", ".cargo/config.toml", "bindings/rust/src/lib.rs", "bindings/rust/Cargo.toml", "bindings/rust/build.rs",
            "command/src/main.rs", "command/Cargo.toml", "command/Cargo.lock"]
-CRATES = "# a comment\nrules:\nstyles: rules\nother: rules\nhazomeny: rules styles\n"
+OWN = ["hazomeny", "tools/library", "tools/unchanged"]
+CRATES = "# a comment\nrules:\nstyles: rules\nother: rules\nhazomeny: rules styles\nhazomeny_c staticlib: hazomeny\n"
 
-PROVING = b"hazomeny: proving the library, 3 crates; from nothing this takes minutes\nhazomeny: proved 2 of 3: styles\n"
+PROVING = b"hazomeny: proving the library, 4 crates; from nothing this takes minutes\nhazomeny: proved styles, 1 of at most 4\n"
 BUILDING = b"hazomeny: building the command\n"
 WAITING = b"hazomeny: another call is building it; waiting\n"
-ALL_CALLS = ["setup", "rt staticlib hazomeny", "cargo"]
+ALL_CALLS = ["setup", "rt lib", "cargo"]
 
 
 class Launcher(Case):
@@ -46,8 +48,9 @@ class Launcher(Case):
         self.file(self.root / "crates.txt", CRATES.encode())
         for name, lines in STUBS.items():
             self.file(self.root / name, f"#!/usr/bin/env bash\nset -eu\n{lines}\n".encode()).chmod(0o755)
+        for name in OWN:
+            shutil.copy(ROOT / name, self.root / name)
         self.script = self.root / "hazomeny"
-        shutil.copy(ROOT / "hazomeny", self.script)
         self.calls = self.folder / "calls"
         self.env = dict(os.environ, CALLS=str(self.calls), PATH=f"{self.root}/bin:{os.environ['PATH']}")
 
@@ -102,7 +105,7 @@ class Launcher(Case):
         broken.touch()
         status, out, error, calls = self.called()
         self.assertEqual((status, out, calls), (3, b"", ALL_CALLS[:2]))
-        self.assertIn(b"rt: styles NOT PROVED (exit 1, 2 s)\nhazomeny: the library is not proved; ", error)
+        self.assertIn(b"rt: the library styles did not build, so nothing above it was checked\nhazomeny: the library is not proved; ", error)
         broken.unlink()
         self.assertEqual(self.called(), (0, self.printed(), PROVING + BUILDING, ALL_CALLS))
 

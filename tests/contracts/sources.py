@@ -5,15 +5,14 @@ import re
 FUNCTION = re.compile(r'^\s*pub (?:extern "C" )?fn (\w+)', re.MULTILINE)
 COMMENT = re.compile(r"//.*")
 ALIAS = re.compile(r"^ghost use .* as ([\w-]+);", re.MULTILINE)
-CLAUSE = re.compile(r"\b(requires|ensures)\s*(?=\{)")
-ANSWER = re.compile(r"^\s*λ [^.]*\.")
+CLAUSE = re.compile(r"\b(requires|ensures)\b[\s\w*]*(?=\{)")
 BRACKETS = {"(": ")", "{": "}"}
 
 
 def crates(root):
     for line in (root / "crates.txt").read_text().splitlines():
         if line and not line.startswith("#"):
-            yield line.split(":")[0]
+            yield line.split(":")[0].split()[0]
 
 
 def functions(root):
@@ -33,7 +32,7 @@ class Contract:
     def __init__(self, aliases, required, ensured):
         self.aliases = aliases
         self.requires = " and ".join(plain(clause) for clause in required) or "–"
-        self.ensures = " and ".join(plain(ANSWER.sub("", clause)) for clause in ensured) or "–"
+        self.ensures = " and ".join(plain(clause) for clause in ensured) or "–"
 
     def without_aliases(self, text):
         """A file may know a file of definitions by a name of its own; the table may leave that out."""
@@ -63,11 +62,6 @@ def closed(text, at):
 
 
 def plain(clause):
-    """A clause as people write it: `x` for the bytes of x before, `x′` for those after, and no brackets that say nothing."""
-    text = clause.replace("⌜", " ").replace("⌝", " ").replace("«", "").replace("»", "")
-    text = re.sub(r"\bnow \((\w+) \.entry\)", r"\1", text)
-    text = re.sub(r"\bnow \((\w+) \.exit\)", r"\1′", text)
-    text = re.sub(r"\bnow (\w+)", r"\1", text)
-    text = re.sub(r"\(([\w′]+)\)", r"\1", text)
-    text = " ".join(text.split())
+    """A clause on one line, without brackets around all of it."""
+    text = " ".join(clause.split())
     return text[1:-1] if text.startswith("(") and closed(text, 0) == len(text) else text
