@@ -1,5 +1,5 @@
 -- The writer's C name: a number that is no step's, and a step.
-use Rattle.rules.proofs.Basics.{◌≡◌, refl, ap, ap₂, subst, ◌∙◌, List, [], ℕ, ◌+◌, ◌*◌, ◌≤◌, ◌<◌, arith, le-leb, lt-leb, get_or, set}
+use Rattle.rules.proofs.Basics.{◌≡◌, refl, ap, ap₂, subst, ◌∙◌, List, ℕ, ◌+◌, ◌*◌, ◌≤◌, ◌<◌, arith, le-leb, lt-leb, get_or, set}
 use Rattle.rules.specs.Answers.{coded}
 use Rattle.moves.specs.declared.Op.{Op}
 use Rattle.moves.specs.declared.Style.{Style}

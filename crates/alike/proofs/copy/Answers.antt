@@ -1,6 +1,5 @@
 -- `alike::copy` is safe and ends: the bytes that are written stand in the slice, which keeps its length.
 use mathlib.Core.Path.{refl}
-use Prim.Native.Nat.{◌-◌}
 use native.Mathlib.Omega.{arith}
 use Rattle.alike.proofs.copy.Goals as goal
 

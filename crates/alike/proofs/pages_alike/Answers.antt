@@ -1,5 +1,5 @@
 -- `alike::pages_alike` is safe. That a buffer has its bytes is said by a law: to compute it takes a minute and a half.
-use mathlib.Core.Path.{sym, ◌∙◌}
+use mathlib.Core.Path.{sym}
 use Prim.Native.Nat.{ℕ}
 use lib.ListN.{length-replicate}
 use Rattle.alike.proofs.pages_alike.Goals as goal

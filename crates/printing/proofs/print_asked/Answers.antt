@@ -1,5 +1,5 @@
 -- `printing::print_asked` meets its contract: the width's two bytes, and the file behind them.
-use Rattle.rules.proofs.Basics.{rules, lt-leb}
+use Rattle.rules.proofs.Basics.{lt-leb}
 use Rattle.printing.specs.Asked.{asked}
 use Rattle.printing.proofs.Laws.{asked_laid}
 use Rattle.printing.proofs.print_asked.Goals as goal

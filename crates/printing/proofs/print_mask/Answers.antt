@@ -1,5 +1,5 @@
 -- `printing::print_mask` meets its contract: the count is within the page, and the page is the one that is left.
-use Rattle.rules.proofs.Basics.{ap, List, ℕ, rules}
+use Rattle.rules.proofs.Basics.{ap, List, ℕ}
 use Rattle.rules.specs.Result.{Result}
 use Rattle.hazomeny.proofs.Written.{mask_in_page}
 use Rattle.printing.specs.Asked.{with_mask}

@@ -1,5 +1,5 @@
 -- `printing::print_page` meets its contract: each entry's count is within its page, and its page is the one that is left.
-use Rattle.rules.proofs.Basics.{ap, List, ℕ, rules}
+use Rattle.rules.proofs.Basics.{ap, List, ℕ}
 use Rattle.rules.specs.Result.{Result}
 use Rattle.hazomeny.proofs.Written.{document_in_page, strict_document_in_page}
 use Rattle.printing.specs.Asked.{with_page}

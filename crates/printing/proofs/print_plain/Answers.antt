@@ -1,5 +1,5 @@
 -- `printing::print_plain` meets its contract: the width's two bytes, and the page of the file behind them.
-use Rattle.rules.proofs.Basics.{rules, lt-leb}
+use Rattle.rules.proofs.Basics.{lt-leb}
 use Rattle.hazomeny.proofs.Written.{print_in_page}
 use Rattle.printing.specs.Asked.{plainly_asked}
 use Rattle.printing.proofs.Laws.{asked_plainly}

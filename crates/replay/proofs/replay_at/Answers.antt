@@ -1,5 +1,5 @@
 -- `replay::replay_at` meets its contract: the request's file stands inside the batch.
-use Rattle.rules.proofs.Basics.{arith, rules}
+use Rattle.rules.proofs.Basics.{arith}
 use Rattle.requests.proofs.Laws.{file_at}
 use Rattle.replay.proofs.replay_at.Goals as goal
 
