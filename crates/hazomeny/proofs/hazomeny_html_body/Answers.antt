@@ -7,7 +7,7 @@ use Rattle.hazomeny.proofs.hazomeny_html_body.Goals as goal
 pub in_one-requires : goal.in_one-requires
 in_one-requires c =
     page_fits html_body _ _ c.html_body.ensures
-    (λ i. omega (arith, c.shared_slice_known-1.given i))
+    (λ i. omega (arith, c.type_inv.file i))
 
 pub returns : goal.returns
 returns c = coded_pair _ c.in_one.ensures c.html_body.ensures

@@ -4,7 +4,7 @@ use Rattle.hazomeny.proofs.Fits.{mask_fits, coded_pair}
 use Rattle.hazomeny.proofs.hazomeny_mask.Goals as goal
 
 pub in_one-requires : goal.in_one-requires
-in_one-requires c = mask_fits _ _ c.mask_file.ensures (λ i. omega (arith, c.shared_slice_known-1.given i))
+in_one-requires c = mask_fits _ _ c.mask_file.ensures (λ i. omega (arith, c.type_inv.file i))
 
 pub returns : goal.returns
 returns c = coded_pair _ c.in_one.ensures c.mask_file.ensures

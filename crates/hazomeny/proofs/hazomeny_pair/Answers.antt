@@ -6,7 +6,7 @@ use Rattle.hazomeny.proofs.hazomeny_pair.Goals as goal
 
 pub length_in_one-requires : goal.length_in_one-requires
 length_in_one-requires c =
-    pair_fits _ _ _ c.check_texts.ensures (omega arith) (λ i. omega (arith, c.shared_slice_known-1.given i)) (λ i. omega (arith, c.shared_slice_known-2-1.given i))
+    pair_fits _ _ _ c.check_texts.ensures (omega arith) (λ i. omega (arith, c.type_inv.original i)) (λ i. omega (arith, c.type_inv.mask i))
 
 pub returns : goal.returns
 returns c = c.length_in_one.ensures ∙ ap coded c.check_texts.ensures

@@ -6,7 +6,7 @@ use Rattle.hazomeny.proofs.hazomeny_print.Goals as goal
 pub in_one-requires : goal.in_one-requires
 in_one-requires c =
     print_fits _ _ _ c.print_at.ensures
-    (λ i. omega (arith, c.shared_slice_known-1.given i))
+    (λ i. omega (arith, c.type_inv.file i))
 
 pub returns : goal.returns
 returns c = coded_pair _ c.in_one.ensures c.print_at.ensures
