@@ -10,8 +10,8 @@ returns-in_default c = mask_refused _ _ _ c.in_default.is c.check-a.ensures
 
 pub returns-then-page-file : goal.returns-then-page-file
 returns-then-page-file c =
-    unfold said refusal in mask_too_short _ _ (every_byte c.args.file.now (λ i. omega (arith, c.shared_slice_known-1.given i))) _ c.in-Done.is c.check-a.ensures c.if-page-file.true
+    unfold said refusal in mask_too_short _ _ (every_byte c.args.file.now (λ i. omega (arith, c.type_inv.file i))) _ c.in-Done.is c.check-a.ensures c.if-page-file.true
 
 pub returns : goal.returns
 returns c =
-    unfold said in mask_made _ _ (every_byte c.args.file.now (λ i. omega (arith, c.shared_slice_known-1.given i))) _ c.in-Done.is c.check-a.ensures (omega arith) c.if-page-file.false c.put_mask.ensures
+    unfold said in mask_made _ _ (every_byte c.args.file.now (λ i. omega (arith, c.type_inv.file i))) _ c.in-Done.is c.check-a.ensures (omega arith) c.if-page-file.false c.put_mask.ensures

@@ -2,6 +2,7 @@
 use Rattle.rules.specs.Walk.{holds}
 use Rattle.pairs.specs.Flat.{is_some, is_holder}
 use Rattle.masking.proofs.TagLaws.{no_holder}
+use Rattle.rules.proofs.Basics.{arith}
 use Rattle.masking.proofs.tags.is_holder.Goals as goal
 
 pub returns-in-1 : goal.returns-in-1
@@ -23,5 +24,4 @@ pub returns-in-16 : goal.returns-in-16
 returns-in-16 c = unfold is_holder is_some holds in rw c.in-16.is
 
 pub returns-in_default : goal.returns-in_default
-returns-in_default c =
-    let r = c.in_default.in_default-own.rest in no_holder _ r.0.0.0.0.0.1 r.0.0.0.0.1 r.0.0.0.1 r.0.0.1 r.0.1 r.1
+returns-in_default c = no_holder _ (omega arith) (omega arith) (omega arith) (omega arith) (omega arith) (omega arith)
