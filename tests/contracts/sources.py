@@ -2,7 +2,8 @@
 
 import re
 
-FUNCTION = re.compile(r'^\s*pub (?:extern "C" )?fn (\w+)', re.MULTILINE)
+FUNCTION = re.compile(r'^( *)pub (?:extern "C" )?fn (\w+)', re.MULTILINE)
+TYPE = re.compile(r"^impl(?:<[^>]*>)? (?:[^{]* for )?(\w+)", re.MULTILINE)
 COMMENT = re.compile(r"//.*")
 ALIAS = re.compile(r"^ghost use .* as ([\w-]+);", re.MULTILINE)
 CLAUSE = re.compile(r"\b(requires|ensures)\b[\s\w*]*(?=\{)")
@@ -16,14 +17,15 @@ def crates(root):
 
 
 def functions(root):
-    """Each public function by its crate, its module and its name, with what it requires and what it ensures."""
+    """Each public function by its crate, its module, for a method its type, and its name, with what it requires and what it ensures."""
     for crate in crates(root):
         for path in sorted((root / "crates" / crate / "src").glob("*.rt")):
             module = "" if path.stem in ("lib", "main") else f"{path.stem}::"
             text = COMMENT.sub("", path.read_text())
             aliases = ALIAS.findall(text)
             for found in FUNCTION.finditer(text):
-                yield f"{crate}::{module}{found[1]}", Contract(aliases, *clauses(text, text.index("(", found.end())))
+                owner = f"{TYPE.findall(text, 0, found.start())[-1]}::" if found[1] else ""
+                yield f"{crate}::{module}{owner}{found[2]}", Contract(aliases, *clauses(text, text.index("(", found.end())))
 
 
 class Contract:

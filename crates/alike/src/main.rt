@@ -4,53 +4,23 @@
 
 #![tactic(auto)]
 
-use fields::wide;
 use hazomeny::{
     hazomeny_check, hazomeny_html_body, hazomeny_html_document, hazomeny_layout, hazomeny_plain,
 };
 use intake::read_full;
 use std::io;
 
-#[derive(Clone, Copy)]
-enum Entry {
-    Plain,
-    Body,
-    Document,
-}
-
-fn ask(entry: Entry, file: &[u8], page: &mut [u8]) -> u64 {
-    match entry {
-        Entry::Plain => hazomeny_plain(file, page),
-        Entry::Body => hazomeny_html_body(file, page),
-        Entry::Document => hazomeny_html_document(file, page),
-    }
-}
-
 fn all_equal(a: u64, b: u64, c: u64) -> bool {
-    if a != b {
-        return false;
-    }
-    b == c
+    a == b && b == c
 }
 
 // Where the file's bytes differ from one mask's, that mask's differ from the other's: the place is copied from a text.
 fn differ_where_copied(file: &[u8], mask: &[u8], other: &[u8]) -> bool {
-    if mask.len() < file.len() {
+    if mask.len() < file.len() || other.len() < file.len() {
         return false;
     }
-    if other.len() < file.len() {
-        return false;
-    }
-    let mut at = 0;
-    while at < file.len() {
-        if file[at] != mask[at] {
-            if mask[at] == other[at] {
-                return false;
-            }
-        }
-        at += 1;
-    }
-    true
+    let masks = mask.iter().zip(other);
+    file.iter().zip(masks).all(|(f, (m, o))| f == m || m != o)
 }
 
 fn say(rt: &impl Print, entry: &str, alike: bool) -> io::Result<()> {
@@ -73,23 +43,24 @@ fn layouts_alike(file: &mut [u8], mask: &mut [u8], other: &mut [u8], width: usiz
     let a = hazomeny_layout(file, width);
     let b = hazomeny_layout(mask, width);
     let c = hazomeny_layout(other, width);
-    if all_equal(a, b, c) {
-        return differ_where_copied(file, mask, other);
-    }
-    false
+    all_equal(a, b, c) && differ_where_copied(file, mask, other)
 }
 
-fn pages_alike(entry: Entry, file: &[u8], mask: &[u8], other: &[u8]) -> bool {
+fn pages_alike<F: Fn(&[u8], &mut [u8]) -> u64>(
+    entry: F,
+    file: &[u8],
+    mask: &[u8],
+    other: &[u8],
+) -> bool
+    requires { F.IsAlwaysCallable entry }
+{
     let mut page = [0u8; 65536];
     let mut masked = [0u8; 65536];
     let mut again = [0u8; 65536];
-    let a = ask(entry, file, &mut page);
-    let b = ask(entry, mask, &mut masked);
-    let c = ask(entry, other, &mut again);
-    if all_equal(a, b, c) {
-        return differ_where_copied(&page, &masked, &again);
-    }
-    false
+    let a = entry(file, &mut page);
+    let b = entry(mask, &mut masked);
+    let c = entry(other, &mut again);
+    all_equal(a, b, c) && differ_where_copied(&page, &masked, &again)
 }
 
 fn compare(
@@ -101,28 +72,19 @@ fn compare(
 ) -> io::Result<()> {
     say(rt, "check", checks_alike(file, mask, other))?;
     say(rt, "layout", layouts_alike(file, mask, other, width))?;
-    say(
-        rt,
-        "plain page",
-        pages_alike(Entry::Plain, file, mask, other),
-    )?;
-    say(rt, "HTML body", pages_alike(Entry::Body, file, mask, other))?;
-    say(
-        rt,
-        "HTML document",
-        pages_alike(Entry::Document, file, mask, other),
-    )
+    let plain = pages_alike(hazomeny_plain, file, mask, other);
+    say(rt, "plain page", plain)?;
+    let body = pages_alike(hazomeny_html_body, file, mask, other);
+    say(rt, "HTML body", body)?;
+    let document = pages_alike(hazomeny_html_document, file, mask, other);
+    say(rt, "HTML document", document)
 }
 
 fn copy(from: &[u8], into: &mut [u8]) {
     if from.len() < into.len() {
         return;
     }
-    let mut at = 0;
-    while at < into.len() {
-        into[at] = from[at];
-        at += 1;
-    }
+    into.copy_from_slice(&from[..into.len()]);
 }
 
 // The three files, each in a buffer of its own length: layout changes them.
@@ -150,7 +112,7 @@ fn main(rt: HostRuntime) -> io::Result<()> {
     if n < 2 {
         return Ok(());
     }
-    let width = wide(input[0]) * 256 + wide(input[1]);
+    let width = usize::from(u16::from_be_bytes([input[0], input[1]]));
     let each = (n - 2) / 3;
     if 65536 < each {
         return Ok(());

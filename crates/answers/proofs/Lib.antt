@@ -1,3 +1,2 @@
--- The laws behind an answer's number and place.
-pub mod Numbers
+-- That an answer's number and place are determined.
 pub mod Determined

@@ -6,47 +6,53 @@ ghost use Rattle.std.specs.Prelude.{◌≡◌, ℕ, ◌<◌, ◌^◌};
 ghost use Rattle.rules.specs.Result.{refused, refusal, said};
 ghost use Rattle.rules.specs.Answers.{coded};
 
-use rules::{Answer, Refusal};
+use rules::Refusal;
+use std::fmt;
 
-#[derive(Drop)]
+#[derive(Debug, Clone, Copy, PartialEq, Eq)]
 pub struct Numbered {
     pub number: u64,
     pub place: usize,
 }
 
-fn at(number: u64, place: usize) -> Numbered
-    ensures { (result.number ≡ number) × (result.place ≡ place) }
-{
-    Numbered { number, place }
+impl From<Refusal> for Numbered {
+    ghost from_gives = { λ r n. refusal {A = ℕ} r ≡ refused n.number n.place };
+
+    #[tactic(auto, unfolding(rules::specs::Result::refusal))]
+    fn from(r: Refusal) -> Numbered {
+        let (number, place) = match r {
+            Refusal::TooLong => (1, 0),
+            Refusal::TooWide => (2, 0),
+            Refusal::Cut(p) => (3, p),
+            Refusal::WrongTag(p) => (4, p),
+            Refusal::WrongLength(p) => (5, p),
+            Refusal::TooDeep(p) => (6, p),
+            Refusal::NotUtf8(p) => (7, p),
+            Refusal::BadStyle(p) => (8, p),
+            Refusal::QuoteInAnchor(p) => (9, p),
+            Refusal::PageTooShort(needed) => (10, needed),
+            Refusal::NulInText(p) => (14, p),
+        };
+        Numbered { number, place }
+    }
 }
 
-pub fn told(r: Refusal) -> Numbered
-    ensures { refusal {A = ℕ} r ≡ refused result.number result.place }
-{
-    match r {
-        Refusal::TooLong => at(1, 0),
-        Refusal::TooWide => at(2, 0),
-        Refusal::Cut(p) => at(3, p),
-        Refusal::WrongTag(p) => at(4, p),
-        Refusal::WrongLength(p) => at(5, p),
-        Refusal::TooDeep(p) => at(6, p),
-        Refusal::NotUtf8(p) => at(7, p),
-        Refusal::BadStyle(p) => at(8, p),
-        Refusal::QuoteInAnchor(p) => at(9, p),
-        Refusal::PageTooShort(needed) => at(10, needed),
-        Refusal::NulInText(p) => at(14, p),
+impl fmt::Display for Numbered {
+    fn fmt<W: fmt::Write>(&self, f: &mut fmt::Formatter<W>) -> fmt::Result {
+        write!(f, "refused {} at {}", self.number, self.place)
     }
 }
 
 // 256 times the count or the place, and the refusal's number, which is 0 where the file is accepted.
-pub fn in_one(a: Answer) -> u64
+#[tactic(auto, unfolding(rules::specs::Answers::coded, rules::specs::Result::said))]
+pub fn in_one(a: Result<usize, Refusal>) -> u64
     requires { coded (said a) < 2 ^ 64 }
     ensures { result ≡ coded (said a) }
 {
     match a {
-        Answer::Done(n) => (n as u64) * 256,
-        Answer::Refused(r) => {
-            let t = told(r);
+        Ok(n) => (n as u64) * 256,
+        Err(r) => {
+            let t = Numbered::from(r);
             (t.place as u64) * 256 + t.number
         }
     }

@@ -1,5 +1,4 @@
--- Laws of the texts of numbers, of the array that digits are gathered in, and of signed numbers made wider.
+-- Laws of the texts of numbers, and of digits that are gathered from the back.
 pub mod Figures
-pub mod Filling
-pub mod Wider
+pub mod Gathered
 pub mod Determined

@@ -1,3 +1,3 @@
--- The code's decimals in the rules' words, and the array that digits are gathered in.
+-- The code's decimals in the rules' words, and the bytes that a number's text is gathered in.
 pub mod Said
-pub mod Ends
+pub mod Room

@@ -5,8 +5,9 @@ use Rattle.rules.specs.Bytes.{ascii}
 use Rattle.rules.specs.Html.{Escape, escape, escaped, item_html, items_html}
 use Rattle.rules.specs.Lines.{char, copied}
 use Rattle.rules.specs.Plain.{fill}
-use Rattle.writing.specs.Written.{Written}
-use Rattle.writing.proofs.Laws.{nothing, then}
+use Rattle.writing.specs.declared.Page.{Page}
+use Rattle.writing.specs.Written.{Put}
+use Rattle.writing.proofs.Laws.{put_then}
 use Rattle.escaping.specs.Runs.{text_by}
 use Rattle.rules.proofs.Fills.{fill_append, fill_makes}
 
@@ -18,16 +19,16 @@ byte_by look b = fill itself (escaped (look b) b)
 abbrev pub escaped_byte : ℕ → List ℕ
 escaped_byte b = byte_by escape b
 
-module _ {page page' : List ℕ} {at r : ℕ} (b : ℕ) where
-  pub ampersand_escaped : b ≡ 38 → {s : List ℕ} → Written page at s page' r → s ≡ ascii "&amp;" → Written page at (escaped_byte b) page' r
+module _ {p q : Page} (b : ℕ) where
+  pub ampersand_escaped : b ≡ 38 → {s : List ℕ} → Put p s q → s ≡ ascii "&amp;" → Put p (escaped_byte b) q
   unfolding escape escaped
   ampersand_escaped e f w = rw (e, fill_makes, ← w) f
 
-  pub less_than_escaped : b ≡ 60 → {s : List ℕ} → Written page at s page' r → s ≡ ascii "&lt;" → Written page at (escaped_byte b) page' r
+  pub less_than_escaped : b ≡ 60 → {s : List ℕ} → Put p s q → s ≡ ascii "&lt;" → Put p (escaped_byte b) q
   unfolding escape escaped
   less_than_escaped e f w = rw (e, fill_makes, ← w) f
 
-  pub left_as_it_is : (b ≡ 38 → ⊥) → (b ≡ 60 → ⊥) → Written page at (b ∷ []) page' r → Written page at (escaped_byte b) page' r
+  pub left_as_it_is : (b ≡ 38 → ⊥) → (b ≡ 60 → ⊥) → Put p (b ∷ []) q → Put p (escaped_byte b) q
   unfolding escape escaped fill
   left_as_it_is n m f = rw (ne_eqb b 38 n, ne_eqb b 60 m) f
 
@@ -49,14 +50,9 @@ module _ (look : ℕ → Escape) where
   pub last_byte : (s : List ℕ) (b : ℕ) → text_by look (s ++ (b ∷ [])) ≡ text_by look s ++ byte_by look b
   last_byte s b = text_append s (b ∷ []) ∙ rw (first_byte b [], no_bytes, append-nil)
 
-module _ (look : ℕ → Escape) {page : List ℕ} {at : ℕ} where
-  pub none_yet : Written page at (text_by look []) page at
-  none_yet = rw (no_bytes look) nothing
+module _ (look : ℕ → Escape) {p q : Page} (text : List ℕ) (i : ℕ) (f : Put p (text_by look (take i text)) q) where
+  pub more : {r : Page} → i < length text → Put q (byte_by look (get_or text i 0)) r → Put p (text_by look (take (i + 1) text)) r
+  more h g = rw (add-one, take-suc text i 0 h, last_byte look (take i text) (get_or text i 0)) (put_then f g)
 
-  module _ (text : List ℕ) (i : ℕ) {page' : List ℕ} {next : ℕ} (f : Written page at (text_by look (take i text)) page' next) where
-    pub more : {page'' : List ℕ} {r : ℕ} → i < length text → Written page' next (byte_by look (get_or text i 0)) page'' r
-        → Written page at (text_by look (take (i + 1) text)) page'' r
-    more h g = rw (add-one, take-suc text i 0 h, last_byte look (take i text) (get_or text i 0)) (then f g)
-
-    pub all : length text ≤ i → Written page at (text_by look text) page' next
-    all h = rw (take_all i text h) at f
+  pub all : length text ≤ i → Put p (text_by look text) q
+  all h = rw (take_all i text h) at f

@@ -3,13 +3,14 @@ use Rattle.rules.proofs.Basics.{◌≡◌, sym, ap, ◌∙◌, List, ℕ, zero, 
 use lib.Seq.{take-add, get_or-drop}
 use Rattle.rules.specs.Bytes.{ascii}
 use Rattle.rules.specs.Html.{escape, strict_escape, escaped}
-use Rattle.looks.specs.Calm.{Lacks}
-use Rattle.writing.specs.Written.{Written}
-use Rattle.writing.proofs.Laws.{then}
+use Rattle.looks.specs.Calm.{Clear}
+use Rattle.writing.specs.declared.Page.{Page}
+use Rattle.writing.specs.Written.{Put}
+use Rattle.writing.proofs.Laws.{put_then}
 use Rattle.escaping.specs.Runs.{escaped_text}
 use Rattle.escaping.specs.Returns.{strict_text, NoReturnTo, FirstReturn}
 use Rattle.rules.proofs.Fills.{fill_makes}
-use Rattle.escaping.proofs.EscapeLaws.{byte_by, escaped_byte, no_bytes, text_append, last_byte, none_yet, more, all}
+use Rattle.escaping.proofs.EscapeLaws.{byte_by, escaped_byte, no_bytes, text_append, last_byte, more, all}
 
 -- ---- one byte
 
@@ -20,7 +21,7 @@ no_return : (b : ℕ) → (b ≡ 13 → ⊥) → strict_byte b ≡ escaped_byte 
 unfolding strict_escape
 no_return b n = rw (ne_eqb b 13 n)
 
-pub return_escaped : {page page' s : List ℕ} {at r : ℕ} → Written page at s page' r → s ≡ ascii "&#13;" → Written page at (strict_byte 13) page' r
+pub return_escaped : {p q : Page} {s : List ℕ} → Put p s q → s ≡ ascii "&#13;" → Put p (strict_byte 13) q
 unfolding strict_escape escaped
 return_escaped f w = rw (fill_makes, ← w) f
 
@@ -37,58 +38,47 @@ byte_counted {text} {n} C h o =
       same = rw (add-one, take-suc text n 0 h, last_byte strict_escape (take n text) b, last_byte escape (take n text) b, C.same, no_return b o);
     }
 
--- m of them
-counted : {text : List ℕ} (m n : ℕ) → NoReturnTo text n → n + m ≤ length text → Lacks 13 text n (n + m) → NoReturnTo text (n + m)
-counted zero n C h L = let e : n + 0 ≡ n = omega arith in rw e C
-counted (suc m) n C h L =
-    let e : n + suc m ≡ n + 1 + m = omega arith in
-    let rest : Lacks 13 _ (n + 1) (n + 1 + m) = record { each = λ k a b. L.each k (omega (arith, a)) (omega (arith, b)) } in
-    rw e (counted m (n + 1) (byte_counted C (omega arith) (L.each n (omega arith) (omega arith))) (omega arith) rest)
+-- in which the test finds no CR
+module _ {P : ℕ → Type 0} {text : List ℕ} where
+  counted : ((b : ℕ) → P b → b ≡ 13 → ⊥) → (n : ℕ) → n ≤ length text → Clear P text 0 n → NoReturnTo text n
+  counted tells zero h C = none_counted text
+  counted tells (suc n) h C =
+      let C' : Clear P text 0 n = record { each = λ k a b. C.each k a (omega (arith, b)) } in
+      rw (← add-one) (byte_counted (counted tells n (omega arith) C') (omega arith) (tells (get_or text n 0) (C.each n (omega arith) (omega arith))))
 
-pub window_counted : {text : List ℕ} {n : ℕ} → NoReturnTo text n → n + 8 ≤ length text → Lacks 13 text n (n + 8) → NoReturnTo text (n + 8)
-window_counted {n = n} C h L = counted 8 n C h L
+  pub first_counted : ((b : ℕ) → P b → b ≡ 13 → ⊥) → {n : ℕ} → n ≤ length text → Clear P text 0 n → (n < length text → get_or text n 0 ≡ 13) → FirstReturn text n
+  first_counted tells {n} h C next = record { before = counted tells n h C; next = next }
 
-pub return_next : {text : List ℕ} {n : ℕ} → NoReturnTo text n → get_or text n 0 ≡ 13 → FirstReturn text n
-return_next C e = record { before = C; next = λ _. e }
+-- ---- a text that is put
 
-pub end_next : {text : List ℕ} {n : ℕ} → NoReturnTo text n → length text ≤ n → FirstReturn text n
-end_next C h = record { before = C; next = λ l. absurd (omega (arith, l, h)) }
-
--- ---- a text that is written
-
--- its first i bytes are
-pub record So (page : List ℕ) (at : ℕ) (text page' : List ℕ) (next i : ℕ) : Type 0 where
+-- its first i bytes are, and a CR is next, or the end
+pub record UpTo (p : Page) (text : List ℕ) (q : Page) (i : ℕ) : Type 0 where
   pub within : i ≤ length text
-  pub written : Written page at (strict_text (take i text)) page' next
+  pub put : Put p (strict_text (take i text)) q
+  pub next : i < length text → get_or text i 0 ≡ 13
 
-pub none_so : {page text : List ℕ} {at : ℕ} → So page at text page at 0
-none_so = record { within = omega arith; written = none_yet strict_escape }
+pub first_part : {p q : Page} {text : List ℕ} {n : ℕ} → FirstReturn text n → Put p (escaped_text (take n text)) q → UpTo p text q n
+first_part f w = record { within = f.before.within; put = rw f.before.same w; next = f.next }
 
-module _ {page text page' : List ℕ} {at next i n : ℕ} (g : So page at text page' next i) (f : FirstReturn (take (length text - i) (drop i text)) n) where
-  rest : take (length text - i) (drop i text) ≡ drop i text
-  rest = take_all (length text - i) (drop i text) (omega (arith, length-drop i text))
+module _ {p q q' : Page} {text : List ℕ} {i n : ℕ} (g : UpTo p text q i) (more_left : i < length text) (cr : Put q (strict_byte 13) q')
+    (f : FirstReturn (take (length text - (i + 1)) (drop (i + 1) text)) n) where
+  rest : take (length text - (i + 1)) (drop (i + 1) text) ≡ drop (i + 1) text
+  rest = take_all (length text - (i + 1)) (drop (i + 1) text) (omega (arith, length-drop (i + 1) text))
 
-  pub in_text : i + n ≤ length text
-  in_text = omega (arith, f.before.within, ap length rest, length-drop i text, g.within)
+  pub in_text : i + 1 + n ≤ length text
+  in_text = omega (arith, f.before.within, ap length rest, length-drop (i + 1) text)
 
-  part_written : {page'' : List ℕ} {r : ℕ} → Written page' next (escaped_text (take (i + n - i) (drop i text))) page'' r
-      → Written page at (strict_text (take (i + n) text)) page'' r
-  part_written w =
-      let e : i + n - i ≡ n = omega arith in
-      let same : strict_text (take n (drop i text)) ≡ escaped_text (take n (drop i text)) = rw rest at f.before.same in
-      rw (take-add i n text, text_append strict_escape (take i text) (take n (drop i text)), same) (then g.written (rw e at w))
+  -- a CR more, and the part behind it
+  pub part_more : {r : Page} → Put q' (escaped_text (take (i + 1 + n - (i + 1)) (drop (i + 1) text))) r → UpTo p text r (i + 1 + n)
+  part_more w =
+      let e : i + 1 + n - (i + 1) ≡ n = omega arith in
+      let same : strict_text (take n (drop (i + 1) text)) ≡ escaped_text (take n (drop (i + 1) text)) = rw rest at f.before.same in
+      let cr' = more strict_escape text i g.put more_left (rw (g.next more_left) cr) in
+      record {
+        within = in_text;
+        put = rw (take-add (i + 1) n text, text_append strict_escape (take (i + 1) text) (take n (drop (i + 1) text)), same) (put_then cr' (rw e at w));
+        next = λ h. sym (get_or-drop (i + 1) text n 0) ∙ (rw rest at f.next) (omega (arith, in_text, length-drop (i + 1) text));
+      }
 
-  -- all is written if it is the last part
-  pub last_part : {page'' : List ℕ} {r : ℕ} → Written page' next (escaped_text (take (i + n - i) (drop i text))) page'' r → i + n ≡ length text
-      → Written page at (strict_text text) page'' r
-  last_part w e = all strict_escape text (i + n) (part_written w) (omega arith)
-
-  -- or the CR behind it
-  pub past_part : {page'' page''' : List ℕ} {b r : ℕ} → Written page' next (escaped_text (take (i + n - i) (drop i text))) page'' b → (i + n ≡ length text → ⊥)
-      → Written page'' b (strict_byte 13) page''' r → So page at text page''' r (i + n + 1)
-  past_part w ne c =
-      let cr : get_or text (i + n) 0 ≡ 13 = sym (get_or-drop i text n 0) ∙ (rw rest at f.next) (omega (arith, in_text, length-drop i text)) in
-      record { within = omega (arith, in_text); written = more strict_escape text (i + n) (part_written w) (omega (arith, in_text)) (rw cr c) }
-
-pub all_so : {page text page' : List ℕ} {at next i : ℕ} → So page at text page' next i → length text ≤ i → Written page at (strict_text text) page' next
-all_so {text = text} {i = i} g h = all strict_escape text i g.written h
+pub all_parts : {p q : Page} {text : List ℕ} {i : ℕ} → UpTo p text q i → length text ≤ i → Put p (strict_text text) q
+all_parts {text = text} {i = i} g h = all strict_escape text i g.put h

@@ -4,7 +4,8 @@ use Rattle.rules.specs.Answers.{itself}
 use Rattle.rules.specs.Html.{Escape, escape, items_html}
 use Rattle.rules.specs.Lines.{char, copied}
 use Rattle.rules.specs.Plain.{fill}
-use Rattle.writing.specs.Written.{Written}
+use Rattle.writing.specs.declared.Page.{Page}
+use Rattle.writing.specs.Written.{Written, Put}
 
 -- a text with its escapes, by how a byte is written
 abbrev pub text_by : (ℕ → Escape) → List ℕ → List ℕ
@@ -22,7 +23,12 @@ pub record PlainTo (text : List ℕ) (n : ℕ) : Type 0 where
   pub within : n ≤ length text
   pub plain : Plain (take n text)
 
--- the first n bytes are written, each as one byte
-pub record Begun (page : List ℕ) (at : ℕ) (text page' : List ℕ) (n : ℕ) : Type 0 where
+-- the first n bytes are written, of which none is escaped
+pub record Copied (page : List ℕ) (at : ℕ) (text page' : List ℕ) (n : ℕ) : Type 0 where
+  pub counted : PlainTo text n
+  pub written : Written page at (take n text) page' (at + n)
+
+-- the first n bytes are put, with their escapes
+pub record Begun (p : Page) (text : List ℕ) (q : Page) (n : ℕ) : Type 0 where
   pub within : n ≤ length text
-  pub written : Written page at (escaped_text (take n text)) page' (at + n)
+  pub put : Put p (escaped_text (take n text)) q

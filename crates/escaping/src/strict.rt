@@ -4,65 +4,38 @@ ghost use Rattle.rules.specs.Answers.{itself};
 ghost use Rattle.rules.specs.Html.{strict_escape, escaped, items_html};
 ghost use Rattle.rules.specs.Lines.{char, copied};
 ghost use Rattle.rules.specs.Plain.{fill};
-ghost use Rattle.writing.specs.Written.{Written};
-ghost use Rattle.escaping.specs.Returns.{NoReturnTo, FirstReturn};
+ghost use Rattle.writing.specs.Written.{Put};
+ghost use Rattle.escaping.specs.Returns.{FirstReturn};
 
-use crate::escapes::put_escaped;
-use looks::lacks;
-use writing::put_bytes;
-
-// So many bytes are looked at together.
-const WINDOW: usize = 8;
-
-// How many bytes the first windows have in which there is no CR.
-fn skip_windows(text: &[u8]) -> usize
-    ensures { NoReturnTo text.now result }
-{
-    let mut n = 0;
-    while WINDOW <= text.len() - n {
-        if !lacks(text, n, n + WINDOW, b'\r') {
-            return n;
-        }
-        n += WINDOW;
-    }
-    n
-}
+use crate::escapes::{WINDOW, put_escaped};
+use looks::first_by_windows;
+use writing::Page;
 
 // How many bytes stand before the first CR.
 fn first_return(text: &[u8]) -> usize
     ensures { FirstReturn text.now result }
 {
-    let mut n = skip_windows(text);
-    while n < text.len() {
-        if text[n] == b'\r' {
-            return n;
-        }
-        n += 1;
-    }
-    n
+    first_by_windows::<WINDOW, _>(text, |b| b == b'\r')
 }
 
 // A CR. It has a function of its own so that the loop does not carry the escape along.
-fn put_return(page: &mut [u8], at: usize) -> usize
-    ensures { Written page.old at (fill itself (escaped (strict_escape 13) 13)) page.new result }
+fn put_return(page: &mut Page<'_>)
+    ensures { Put page.old (fill itself (escaped (strict_escape 13) 13)) page.new }
 {
-    put_bytes(page, at, b"&#13;")
+    page.put_bytes(b"&#13;");
 }
 
 // A whole text: the bytes up to a CR as in any mode, then the CR, and so on.
-pub fn put_strict(page: &mut [u8], at: usize, text: &[u8]) -> usize
-    ensures { Written page.old at (fill itself (items_html strict_escape (map (λ y. char (copied y)) text.now))) page.new result }
+pub fn put_strict(page: &mut Page<'_>, text: &[u8])
+    ensures { Put page.old (fill itself (items_html strict_escape (map (λ y. char (copied y)) text.now))) page.new }
 {
-    let mut next = at;
-    let mut i = 0;
+    // `i` goes on by a CR and the part behind it: a `for` over the bytes would count what the part has passed.
+    let mut i = first_return(text);
+    put_escaped(page, &text[..i]);
     while i < text.len() {
-        let end = i + first_return(&text[i..]);
-        next = put_escaped(page, next, &text[i..end]);
-        if end == text.len() {
-            return next;
-        }
-        next = put_return(page, next);
-        i = end + 1;
+        put_return(page);
+        let from = i + 1;
+        i = from + first_return(&text[from..]);
+        put_escaped(page, &text[from..i]);
     }
-    next
 }

@@ -1,6 +1,6 @@
 -- The field at a place, by what is known of the lengths; where a whole one stands, and what is not whole.
 use Rattle.std.specs.Prelude.{if◌then◌else◌}
-use Rattle.rules.proofs.Basics.{◌≡◌, refl, sym, ap, ap₂, ◌∙◌, List, Bool, true, false, ℕ, ◌+◌, ◌*◌, ◌<◌, ◌≤◌, arith, leb, length, take, get_or, length-take-le, leb-true, le-leb, lt-leb}
+use Rattle.rules.proofs.Basics.{◌≡◌, refl, sym, ap, ap₂, ◌∙◌, List, Bool, true, false, ℕ, ◌+◌, ◌-◌, ◌*◌, ◌<◌, ◌≤◌, arith, leb, length, take, get_or, length-take-le, leb-true, le-leb, lt-leb}
 use lib.Seq.{get_or-take, take-length}
 use Rattle.fields.specs.declared.Field.{Field}
 use Rattle.fields.specs.declared.Field.TheVariants.{Whole, Past, Cut}
@@ -79,6 +79,10 @@ rises s at t from to f e w = (whole_inside s at t from to f e w).rising
 
 pub ends : (s : List ℕ) (at t from to : ℕ) (f : Field) → f ≡ field_at s at → f ≡ Whole t from to → to ≤ length s
 ends s at t from to f e w = (whole_inside s at t from to f e w).ends
+
+-- behind it less is left
+pub whole_nearer : (s : List ℕ) (at t from to : ℕ) (f : Field) → f ≡ field_at s at → f ≡ Whole t from to → length s - to < length s - at
+whole_nearer s at t from to f e w = let i = whole_inside s at t from to f e w in omega (arith, i.begins, i.rising, i.ends)
 
 -- ---- a field that is not whole
 

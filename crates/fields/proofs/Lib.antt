@@ -1,7 +1,6 @@
 -- Laws of the field at a place, of loops over fields and of the fields of leaves; the readings of functions that call each other.
 pub mod Laws
 pub mod Encoded
-pub mod Cycles
 pub mod Spans
 pub mod Loops
 pub mod OfFields

@@ -7,7 +7,8 @@ ghost use Rattle.fields.specs.FieldAt.{field_at};
 
 pub mod parts;
 
-#[derive(Drop)]
+// An enum, which callers open by `let .. else`: document 01's form.
+#[derive(Debug, Clone, Copy, PartialEq, Eq)]
 pub enum Field {
     // the whole field is there: its value stands from `from` to `to`
     Whole { tag: u8, from: usize, to: usize },
@@ -17,14 +18,8 @@ pub enum Field {
     Cut,
 }
 
-// A byte as a number.
-pub fn wide(b: u8) -> usize
-    ensures { (result ≡ b) × (result < 256) }
-{
-    b as usize
-}
-
 // The field at `at`, of what ends at `end`. A place inside the bytes costs less to hand on than a slice of them.
+#[tactic(auto, using(crate::proofs::Laws::cut_in, crate::proofs::Laws::past_in))]
 pub fn field_in(s: &[u8], at: usize, end: usize) -> Field
     requires { (at ≤ end) × (end ≤ length s.now) }
     ensures { result ≡ field_at (take end s.now) at }
@@ -33,7 +28,7 @@ pub fn field_in(s: &[u8], at: usize, end: usize) -> Field
         return Field::Cut;
     }
     let from = at + 3;
-    let n = wide(s[at + 1]) * 256 + wide(s[at + 2]);
+    let n = usize::from(u16::from_be_bytes([s[at + 1], s[at + 2]]));
     if n <= end - from {
         return Field::Whole {
             tag: s[at],
@@ -44,6 +39,7 @@ pub fn field_in(s: &[u8], at: usize, end: usize) -> Field
     Field::Past(s[at])
 }
 
+#[tactic(auto, using(crate::proofs::Laws::cut, crate::proofs::Laws::at_the_end))]
 pub fn field_at(s: &[u8], at: usize) -> Field
     ensures { result ≡ field_at s.now at }
 {

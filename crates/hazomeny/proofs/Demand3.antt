@@ -1,8 +1,7 @@
 -- Demand 3 stated of the public contracts (src/lib.rt): what satisfies them on two accepted files that are equal but for bytes inside texts. The words are
 -- those of rules/specs/Alike; `said` is what an answer says, `decoded` what the number that a C name answers says.
 use Rattle.rules.proofs.Basics.{◌≡◌, sym, ◌∙◌, ap, List, ◌∷◌, true, false, ℕ, ◌<◌, eqb, length, get_or, eqb-true, eq-eqb}
-use Rattle.rules.specs.declared.Answer.{Answer}
-use Rattle.rules.specs.Result.{Result, accepted, said}
+use Rattle.rules.specs.Result.{Result, Answer, accepted, said}
 use Rattle.rules.specs.Good.{Bytes}
 use Rattle.rules.specs.Answers.{check_answer, check_answer_by, strict_check_answer, layout_outcome, coded, coded_outcome, decoded}
 use Rattle.rules.specs.Mask.{text_places, ByteAlike, Without}

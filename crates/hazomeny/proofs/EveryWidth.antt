@@ -1,10 +1,9 @@
 -- Request E12 stated of the public contracts (src/lib.rt): layout of one accepted file at two widths, each followed by the plain page; and how long each of the
 -- pages can be. The words are those of rules/specs/SameWords; `said` is what an answer says, `decoded` what the number that a C name answers says.
 use Rattle.rules.proofs.Basics.{◌≡◌, refl, sym, ◌∙◌, ap, subst, List, Bool, true, false, ℕ, ◌*◌, ◌≤◌, arith, leb, length, take, leb-false}
-use Rattle.rules.specs.declared.Answer.{Answer}
 use Rattle.rules.specs.Limits.{plain_per_byte}
 use Rattle.rules.specs.Bytes.{newline}
-use Rattle.rules.specs.Result.{Result, refused, accepted, ◌>>=◌, said}
+use Rattle.rules.specs.Result.{Result, Answer, refused, accepted, ◌>>=◌, said}
 use Rattle.rules.specs.Good.{Bytes}
 use Rattle.rules.specs.Plain.{fill}
 use Rattle.rules.specs.Answers.{itself, check_answer, check_answer_by, layout_outcome, written, left_page, plain_outcome, coded_outcome, decoded}

@@ -1,7 +1,6 @@
 -- What `mask_file` leaves, put through layout and each page's entry: the file and its mask are two files as in demand 3, of the entries' contracts.
 use Rattle.rules.proofs.Basics.{◌≡◌, refl, sym, ap, ◌∙◌, List, [], ◌∷◌, ◌++◌, Bool, true, false, ℕ, leb, length, take, drop, take_at}
-use Rattle.rules.specs.declared.Answer.{Answer}
-use Rattle.rules.specs.Result.{Result, refused, accepted, said, ◌>>=◌}
+use Rattle.rules.specs.Result.{Result, Answer, refused, accepted, said, ◌>>=◌}
 use Rattle.rules.specs.Tree.{Frag}
 use Rattle.rules.specs.Good.{Bytes}
 use Rattle.rules.specs.Answers.{tree, check_answer, layout_outcome, left_page, written}

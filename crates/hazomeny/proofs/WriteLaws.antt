@@ -1,6 +1,8 @@
 -- The writer's C name: a number that is no step's, and a step.
-use Rattle.rules.proofs.Basics.{◌≡◌, refl, ap, ap₂, subst, ◌∙◌, List, ℕ, ◌+◌, ◌*◌, ◌≤◌, ◌<◌, arith, le-leb, lt-leb, get_or, set}
+use Rattle.rules.proofs.Basics.{◌≡◌, refl, ap, ap₂, subst, ◌∙◌, List, ℕ, ◌+◌, ◌*◌, ◌≤◌, ◌<◌, le-leb, lt-leb, get_or, set}
+use Rattle.std.specs.Prelude.{Option, Some, None}
 use Rattle.rules.specs.Answers.{coded}
+use Rattle.rules.proofs.Chains.{no_path}
 use Rattle.moves.specs.declared.Op.{Op}
 use Rattle.moves.specs.declared.Style.{Style}
 use Rattle.moves.specs.declared.Moved.{Moved}
@@ -27,25 +29,28 @@ known_step step style text b ns {b'} {at} {top} {r} {o} {st} {m} e f h p q s c =
 
 -- ---- a step done at once
 
-pub untouched : {r : Spot} {b b' : List ℕ} {s : State} → Quick r b b' s → r.at ≡ 0 → b' ≡ b
+same : {r : Option Spot} {x y : Spot} → r ≡ Some y → r ≡ Some x → x ≡ y
+same q h = cc
+
+pub untouched : {r : Option Spot} {b b' : List ℕ} {s : State} → Quick r b b' s → r ≡ None → b' ≡ b
 untouched (not_here z e) h = e
-untouched (done b a t k p m n) h = absurd (omega (arith, p, h))
+untouched (done x q b a t k p m n) h = no_path (cc)
 
 -- what is left of a buffer that stayed as it was
 pub left_alone : (step : ℕ) (style text ns b : List ℕ) {b₁ b' ns' : List ℕ} {r : ℕ} → b₁ ≡ b → Leaves r b' ns' (write_in_c step style text b₁ ns) → Leaves r b' ns' (write_in_c step style text b ns)
 left_alone step style text ns b {b' = b'} {ns'} {r} e l = subst (λ (x : List ℕ). Leaves r b' ns' (write_in_c step style text x ns)) e l
 
-pub small : {r : Spot} {b b' : List ℕ} {s : State} → Quick r b b' s → (r.at ≡ 0 → ⊥) → (r.at ≤ 65_535) × (r.top ≤ 65_535)
-small (not_here z e) h = absurd (h z)
-small (done b a t k p m n) h = (m, n)
+pub small : {r : Option Spot} {b b' : List ℕ} {s : State} {x : Spot} → Quick r b b' s → r ≡ Some x → (x.at ≤ 65_535) × (x.top ≤ 65_535)
+small (not_here z e) h = no_path (cc)
+small (done y q b a t k p m n) h = rw (same q h) (m, n)
 
-pub quick_step : (step : ℕ) (style text b ns : List ℕ) {b' : List ℕ} {at top : ℕ} {r : Spot} → at ≡ get_or ns 0 0 → top ≡ get_or ns 1 0 → step ≤ last_step
-    → Quick r b b' (stepped (numbered step) (style_in style) text b at top) → (r.at ≡ 0 → ⊥) → Leaves (r.at * 256) b' (set (set ns 0 r.at) 1 r.top) (write_in_c step style text b ns)
+pub quick_step : (step : ℕ) (style text b ns : List ℕ) {b' : List ℕ} {at top : ℕ} {r : Option Spot} {x : Spot} → at ≡ get_or ns 0 0 → top ≡ get_or ns 1 0 → step ≤ last_step
+    → Quick r b b' (stepped (numbered step) (style_in style) text b at top) → r ≡ Some x → Leaves (x.at * 256) b' (set (set ns 0 x.at) 1 x.top) (write_in_c step style text b ns)
 unfolding write_in_c left_in_c left_by coded
-quick_step step style text b ns {b'} {at} {top} {r} e f h (not_here z k) n = absurd (n z)
-quick_step step style text b ns {b'} {at} {top} {r} e f h (done i a t k p m l) n =
-    rw (le-leb step last_step h, ← e, ← f) (record {
+quick_step step style text b ns e f h (not_here z k) n = no_path (cc)
+quick_step step style text b ns {b'} {at} {top} {r} {x} e f h (done y q i a t k p m l) n =
+    rw (same q n) (rw (le-leb step last_step h, ← e, ← f) (record {
       answer_is = rw k;
       bytes_are = i;
       numbers_are = ap₂ (λ (x y : ℕ). set (set ns 0 x) 1 y) a t;
-    })
+    }))

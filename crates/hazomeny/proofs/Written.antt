@@ -1,8 +1,7 @@
 -- What an accepted page says to a caller: its bytes stand in the page.
 use Rattle.rules.proofs.Basics.{◌≡◌, sym, subst, List, ◌++◌, Bool, true, false, ℕ, ◌≤◌, arith, leb, length, take, drop, length-take, length-append}
-use Rattle.rules.specs.declared.Answer.{Answer}
-use Rattle.rules.specs.declared.Answer.TheVariants.{Done}
-use Rattle.rules.specs.Result.{Result, refused, accepted, said}
+use Rattle.std.specs.Prelude.{Ok}
+use Rattle.rules.specs.Result.{Result, Answer, refused, accepted, said}
 use Rattle.rules.specs.Prints.{printed, print_outcome}
 use Rattle.rules.specs.Answers.{written, left_page, layout_outcome, plain_text, plain_outcome_by, document_text, document_outcome, document_outcome_by, strict_document_text, strict_document_outcome}
 use Rattle.pairs.specs.Masking.{mask_text, mask_outcome}
@@ -30,7 +29,7 @@ unfolding printed plain_outcome_by
 printed_within (refused n p) s page = tt
 printed_within (accepted n) s page = left_within (plain_text s) page
 
-module _ (s page : List ℕ) (a : Answer) {n : ℕ} {page' : List ℕ} (q : a ≡ Done n) where
+module _ (s page : List ℕ) (a : Answer) {n : ℕ} {page' : List ℕ} (q : a ≡ Ok n) where
   counted : (x : Result (List ℕ)) → (said a, page') ≡ left_page x page → InPage n page'
   unfolding said
   counted x e = subst (λ (o : Result ℕ × List ℕ). Within o.0 o.1) (sym (rw q at e)) (left_within x page)

@@ -2,9 +2,8 @@
 -- do a mask that hides nothing, a check that takes any two files for a pair, and strict entries that are today's.
 use Rattle.rules.proofs.Basics.{◌≡◌, refl, sym, ◌∙◌, ap, List, [], ℕ, ◌+◌, ◌<◌, ◌^◌, arith, length, get_or, replicate}
 use Rattle.rules.specs.declared.Refusal.{Refusal}
-use Rattle.rules.specs.declared.Answer.{Answer}
-use Rattle.rules.specs.declared.Answer.TheVariants.{Done, Refused}
-use Rattle.rules.specs.Result.{Result, refused, accepted, said}
+use Rattle.std.specs.Prelude.{Ok, Err}
+use Rattle.rules.specs.Result.{Result, Answer, refused, accepted, said}
 use Rattle.rules.specs.Tree.{Frag}
 use Rattle.rules.specs.Encode.{encode}
 use Rattle.rules.specs.Good.{Bytes}
@@ -17,7 +16,7 @@ use Rattle.rules.proofs.Unique.{said_unique, outcome_unique, coded_back, coded_o
 use Rattle.pairs.specs.Masking.{mask_text, mask_outcome}
 use Rattle.pairs.specs.Pair.{first_difference, same, or_else, text_in, found_or, text_at, pair_text, length_of, pair_answer}
 use Rattle.pairs.specs.Pair as pairs
-use Rattle.pairs.specs.declared.Answer as Pair
+use Rattle.pairs.proofs.Unique as pairs_unique
 use Rattle.hazomeny.proofs.Fits.{told_check, told_strict_check, told_layout, told_page, told_mask, told_pair}
 
 -- ---- NO SECOND OUTCOME SATISFIES A CONTRACT: two answers that do, and the bytes left with them, are equal
@@ -37,15 +36,8 @@ page_determined k s q = outcome_unique (outcome_of k s q)
 pub mask_determined : (s q : List ℕ) (a b : Answer) (r u : List ℕ) → (said a, r) ≡ mask_outcome s q → (said b, u) ≡ mask_outcome s q → (a ≡ b) × (r ≡ u)
 mask_determined s q = outcome_unique (mask_outcome s q)
 
-pub pair_determined : (o m : List ℕ) (p : ℕ) (a b : Pair.Answer) → pairs.said a ≡ pair_answer o m p → pairs.said b ≡ pair_answer o m p → a ≡ b
-unfolding pairs.said
-pair_determined o m p a b x y = go a b (x ∙ sym y)
-  where
-    go : (a b : Pair.Answer) → pairs.said a ≡ pairs.said b → a ≡ b
-    go (Pair.TheVariants.Length n) (Pair.TheVariants.Length k) e = cc
-    go (Pair.TheVariants.Refused n p) (Pair.TheVariants.Refused k q) e = cc
-    go (Pair.TheVariants.Length n) (Pair.TheVariants.Refused k q) e = no_path cc
-    go (Pair.TheVariants.Refused n p) (Pair.TheVariants.Length k) e = no_path cc
+pub pair_determined : (o m : List ℕ) (p : ℕ) (a b : pairs.Answer) → pairs.said a ≡ pair_answer o m p → pairs.said b ≡ pair_answer o m p → a ≡ b
+pair_determined o m p a b x y = pairs_unique.said_unique a b (x ∙ sym y)
 
 -- the number that a C name answers is fixed by its contract, and says the outcome
 pub check_said_in_c : (s : List ℕ) (n : ℕ) → n ≡ coded (check_answer s) → decoded n ≡ check_answer s
@@ -84,25 +76,25 @@ empty_page html_document = refl
 empty_page strict_body = refl
 empty_page strict_document = refl
 
-not_refused : {n : ℕ} (x : Refusal) (o : Result ℕ) → said (Refused x) ≡ o → o ≡ accepted n → ⊥
+not_refused : {n : ℕ} (x : Refusal) (o : Result ℕ) → said (Err x) ≡ o → o ≡ accepted n → ⊥
 unfolding said
 not_refused {n} x o e f =
-    let d : Refused x ≡ Done n = said_unique (Refused x) (Done n) (e ∙ f) in
+    let d : Err x ≡ Ok n = said_unique (Err x) (Ok n) (e ∙ f) in
     no_path cc
 
-pub check_refuses_not_all : (x : Refusal) → said (Refused x) ≡ check_answer [] → ⊥
+pub check_refuses_not_all : (x : Refusal) → said (Err x) ≡ check_answer [] → ⊥
 unfolding all_open
 check_refuses_not_all x e = not_refused x (check_answer []) e refl
 
-pub strict_check_refuses_not_all : (x : Refusal) → said (Refused x) ≡ strict_check_answer [] → ⊥
+pub strict_check_refuses_not_all : (x : Refusal) → said (Err x) ≡ strict_check_answer [] → ⊥
 unfolding all_open
 strict_check_refuses_not_all x e = not_refused x (strict_check_answer []) e refl
 
-pub layout_refuses_not_all : (x : Refusal) (t : List ℕ) → (said (Refused x), t) ≡ layout_outcome 0 [] → ⊥
+pub layout_refuses_not_all : (x : Refusal) (t : List ℕ) → (said (Err x), t) ≡ layout_outcome 0 [] → ⊥
 unfolding all_open
 layout_refuses_not_all x t e = not_refused x (layout_outcome 0 []).0 (ap (λ o. o.0) e) refl
 
-pub page_refuses_not_all : (k : Page) (x : Refusal) (r : List ℕ) → (said (Refused x), r) ≡ outcome_of k [] (replicate (room k) 0) → ⊥
+pub page_refuses_not_all : (k : Page) (x : Refusal) (r : List ℕ) → (said (Err x), r) ≡ outcome_of k [] (replicate (room k) 0) → ⊥
 page_refuses_not_all k x r e = not_refused x _ (ap (λ o. o.0) e) (empty_page k)
 
 -- ---- 2. ONE FIXED PAGE FOR ALL FILES: no page satisfies a contract both of the file of the text `x` and of the file of the text `y`
@@ -158,14 +150,14 @@ layout_skips_no_block a t e skipped = omega (arith, ap (λ o. get_or o.1 13 0) e
 
 -- ---- 5. AN INVENTED COUNT: of P2's file at width 6 no count but 1 satisfies the contract
 
-pub layout_counts_one : (n : ℕ) (t : List ℕ) → (said (Done n), t) ≡ layout_outcome 6 (unhex call) → (n ≡ 1 → ⊥) → ⊥
+pub layout_counts_one : (n : ℕ) (t : List ℕ) → (said (Ok n), t) ≡ layout_outcome 6 (unhex call) → (n ≡ 1 → ⊥) → ⊥
 unfolding all_open said
 layout_counts_one n t e other =
     let h : ◌≡◌ {A = Result ℕ} (accepted n) (accepted 1) = ap (λ o. o.0) e in
     other cc
 
 -- and of any file and width none but the number of bytes that changed
-pub layout_counts : (w : ℕ) (s : List ℕ) (n : ℕ) (t : List ℕ) → (said (Done n), t) ≡ layout_outcome w s → n ≡ length (changed 0 s t)
+pub layout_counts : (w : ℕ) (s : List ℕ) (n : ℕ) (t : List ℕ) → (said (Ok n), t) ≡ layout_outcome w s → n ≡ length (changed 0 s t)
 unfolding said layout_outcome_by left_laid
 layout_counts w s n t e = go (laid_out w s) e
   where

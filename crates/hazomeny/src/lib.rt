@@ -22,13 +22,13 @@ use pages::frame::Kind;
 use pages::whole::render_page;
 use prints::print_at;
 use quick::steps::{LAST_QUICK, quick_step};
-use rules::Answer;
+use rules::Refusal;
 use scribe::numbers::{LAST_STEP, answer_in_one, from_state, numbered, style_in};
 use scribe::stepping::step_near;
 use verify::walk::{check, check_strict};
 
 // The file check: accepted with 0, or the first fault's number and place.
-pub fn check_file(file: &[u8]) -> Answer
+pub fn check_file(file: &[u8]) -> Result<usize, Refusal>
     ensures { said result ≡ check_answer file.now }
 {
     check(file)
@@ -41,7 +41,7 @@ pub fn hazomeny_check(file: &[u8]) -> u64
 }
 
 // The file check for strict HTML: a NUL in a text is refused too, by 14.
-pub fn check_file_strict(file: &[u8]) -> Answer
+pub fn check_file_strict(file: &[u8]) -> Result<usize, Refusal>
     ensures { said result ≡ strict_check_answer file.now }
 {
     check_strict(file)
@@ -54,7 +54,7 @@ pub fn hazomeny_check_strict(file: &[u8]) -> u64
 }
 
 // Layout in place, at a width in columns: accepted with the number of tags that changed from 4 to 3; a refusal changes no byte.
-pub fn layout_file(file: &mut [u8], width: usize) -> Answer
+pub fn layout_file(file: &mut [u8], width: usize) -> Result<usize, Refusal>
     ensures { (said result, file.new) ≡ layout_outcome width file.old }
 {
     layout_with_max_line_width(file, width)
@@ -68,7 +68,7 @@ pub fn hazomeny_layout(file: &mut [u8], width: usize) -> u64
 
 // The plain page, of a file laid out or not: accepted with the page's length, written from the page's start, and later bytes as they were;
 // a page that is too short is refused with the bytes needed. A refusal changes no byte.
-pub fn plain_page(file: &[u8], page: &mut [u8]) -> Answer
+pub fn plain_page(file: &[u8], page: &mut [u8]) -> Result<usize, Refusal>
     ensures { (said result, page.new) ≡ plain_outcome file.now page.old }
 {
     render_page(Kind::Plain, file, page)
@@ -89,7 +89,7 @@ pub fn hazomeny_print(file: &[u8], width: usize, page: &mut [u8]) -> u64
 }
 
 // The HTML body: one `pre` element. Otherwise as the plain page.
-pub fn html_body(file: &[u8], page: &mut [u8]) -> Answer
+pub fn html_body(file: &[u8], page: &mut [u8]) -> Result<usize, Refusal>
     ensures { (said result, page.new) ≡ body_outcome file.now page.old }
 {
     render_page(Kind::Body, file, page)
@@ -102,7 +102,7 @@ pub fn hazomeny_html_body(file: &[u8], page: &mut [u8]) -> u64
 }
 
 // The HTML document: the body in its frame, with the one style element. Otherwise as the plain page.
-pub fn html_document(file: &[u8], page: &mut [u8]) -> Answer
+pub fn html_document(file: &[u8], page: &mut [u8]) -> Result<usize, Refusal>
     ensures { (said result, page.new) ≡ document_outcome file.now page.old }
 {
     render_page(Kind::Document, file, page)
@@ -115,7 +115,7 @@ pub fn hazomeny_html_document(file: &[u8], page: &mut [u8]) -> u64
 }
 
 // The HTML body in which a CR of a text is `&#13;`, so that a browser keeps it. A file with a NUL in a text, which no browser keeps, is refused by 14.
-pub fn html_body_strict(file: &[u8], page: &mut [u8]) -> Answer
+pub fn html_body_strict(file: &[u8], page: &mut [u8]) -> Result<usize, Refusal>
     ensures { (said result, page.new) ≡ strict_body_outcome file.now page.old }
 {
     render_page(Kind::StrictBody, file, page)
@@ -128,7 +128,7 @@ pub fn hazomeny_html_body_strict(file: &[u8], page: &mut [u8]) -> u64
 }
 
 // The document of that body.
-pub fn html_document_strict(file: &[u8], page: &mut [u8]) -> Answer
+pub fn html_document_strict(file: &[u8], page: &mut [u8]) -> Result<usize, Refusal>
     ensures { (said result, page.new) ≡ strict_document_outcome file.now page.old }
 {
     render_page(Kind::StrictDocument, file, page)
@@ -141,7 +141,7 @@ pub fn hazomeny_html_document_strict(file: &[u8], page: &mut [u8]) -> u64
 }
 
 // The mask of a file: every byte of a text but newlines is `x`. Accepted with its length, written from the page's start; otherwise as the plain page.
-pub fn mask_file(file: &[u8], page: &mut [u8]) -> Answer
+pub fn mask_file(file: &[u8], page: &mut [u8]) -> Result<usize, Refusal>
     ensures { (said result, page.new) ≡ mask_outcome file.now page.old }
 {
     mask_into(file, page)
@@ -155,7 +155,7 @@ pub fn hazomeny_mask(file: &[u8], page: &mut [u8]) -> u64
 
 // Original and mask together with a place: accepted with the length of the text whose field stands there. 12 where the second is not the mask of the
 // first, 13 where no text's field stands there.
-pub fn check_texts(original: &[u8], mask: &[u8], place: usize) -> pairs::Answer
+pub fn check_texts(original: &[u8], mask: &[u8], place: usize) -> Result<usize, pairs::Refusal>
     ensures { pairs.said result ≡ pair_answer original.now mask.now place }
 {
     check_pair(original, mask, place)
@@ -204,17 +204,16 @@ pub fn hazomeny_write(
     if LAST_QUICK < step {
         return any_step(file, state, step, style, text);
     }
-    let q = quick_step(
+    let Some(q) = quick_step(
         file,
         from_state(state[0]),
         from_state(state[1]),
         step,
         style,
         text,
-    );
-    if q.at == 0 {
+    ) else {
         return any_step(file, state, step, style, text);
-    }
+    };
     state[0] = q.at as u32;
     state[1] = q.top as u32;
     (q.at as u64) * 256

@@ -17,6 +17,7 @@ pub fn read_full<R: Read>(input: &mut R, buffer: &mut [u8]) -> io::Result<usize>
     ensures end { IfOk result (λ n. n < length buffer.new → IsAtEnd (R.remaining input.new)) }
 {
     let mut at = 0;
+    // No `for`: a step is as long as what was read.
     while at < buffer.len() {
         let n = input.read(&mut buffer[at..])?;
         if n == 0 {

@@ -25,7 +25,7 @@ use Rattle.verify.proofs.ContentLaws.{calm_text, loose_text}
 use Rattle.verify.proofs.ValueLaws.{run_value, note_value, empty_value, filled_value}
 use Rattle.verify.proofs.GlanceLaws.{filled_alone}
 use Rattle.verify.proofs.SaidLaws.{faulty_said, sound_said}
-use Rattle.laying.specs.Told.{bad, Fine, LeafSaid, LeafTold, QuickTold, NodeTold}
+use Rattle.laying.specs.Told.{bad, Fine, LeafSaid, LeafTold, NodeTold}
 
 pub no_block : {t : ℕ} → (t ≡ 3 → ⊥) → (t ≡ 4 → ⊥) → is_block t ≡ false
 unfolding is_block
@@ -77,27 +77,23 @@ stands_there : {s : List ℕ} {place at end : ℕ} → Between s place at end �
 stands_there {s} {at = at} {end} P S h = sym (whole_in s at end P.ends (length_at s at) refl (omega (arith, S.ends, h))) ∙ rw (S.tag, S.ends)
 
 module _ {s : List ℕ} {at to : ℕ} (P : Between s at (at + 3) to) where
-  pub nothing_found : {t : ℕ} → QuickTold s t at to bad
-  nothing_found = record { found = λ n. absurd (n refl) }
-
   -- sound, and part of a line
   found_line : {t : ℕ} → LeafSaid s t at to (accepted tt) → {r a b : ℕ} → shape r ≡ Inline a b → Inline a b ≡ by_tag t (part s (at + 3) to) → LeafTold s t at to r
   found_line S e q = let F = line_fine e in record { check = record { wrong = λ z. absurd (F.other z); sound = λ o. S }; layout = λ o. e ∙ q }
 
   -- a text of one line
   pub text_found : {f : Bool} → Says f (Stands s 17 (at + 3) to) → f ≡ true → {c : Bool} → Says c (Calm 10 s (at + 3 + 3) to) → c ≡ true → {x : ℕ} → x ≡ wide (to - (at + 3 + 3)) 10
-      → {r : ℕ} → shape r ≡ Inline x 0 → QuickTold s 1 at to r
+      → {r : ℕ} → shape r ≡ Inline x 0 → LeafTold s 1 at to r
   unfolding by_tag
-  text_found f t C y x q = record {
-    found = λ o. let S = f.says t in
-        found_line (λ d. run_value d _ _ refl refl (filled_alone P S (calm_utf8 P.ends (omega (arith, S.ends)) (C.says y)) d)) q
-        (plain_quick s (at + 3) to P.ends 17 (at + 3 + 3) to refl (stands_there P S (omega arith)) (λ z. absurd (omega (arith, z))) (no_newline C) y x refl);
-  }
+  text_found f t C y x q =
+      let S = f.says t in
+      found_line (λ d. run_value d _ _ refl refl (filled_alone P S (calm_utf8 P.ends (omega (arith, S.ends)) (C.says y)) d)) q
+      (plain_quick s (at + 3) to P.ends 17 (at + 3 + 3) to refl (stands_there P S (omega arith)) (λ z. absurd (omega (arith, z))) (no_newline C) y x refl)
 
   -- a 7 of one line
-  pub note_found : {c : Bool} → Says c (Calm 10 s (at + 3) to) → c ≡ true → {x : ℕ} → x ≡ wide (to - (at + 3)) 10 → {r : ℕ} → shape r ≡ Inline x x → QuickTold s 7 at to r
+  pub note_found : {c : Bool} → Says c (Calm 10 s (at + 3) to) → c ≡ true → {x : ℕ} → x ≡ wide (to - (at + 3)) 10 → {r : ℕ} → shape r ≡ Inline x x → LeafTold s 7 at to r
   unfolding by_tag
-  note_found C y x q = record { found = λ o. found_line (λ d. note_value d _ _ refl (loose_text _ _ (calm_text P (C.says y) refl) refl)) q (lacking_if_block P.rising P.ends (no_newline C) y x refl) }
+  note_found C y x q = found_line (λ d. note_value d _ _ refl (loose_text _ _ (calm_text P (C.says y) refl) refl)) q (lacking_if_block P.rising P.ends (no_newline C) y x refl)
 
 -- a tag of a fragment that is no other
 among : (t : ℕ) → 1 ≤ t → t ≤ 7 → (t ≡ 1 → ⊥) → (t ≡ 2 → ⊥) → (t ≡ 3 → ⊥) → (t ≡ 4 → ⊥) → (t ≡ 5 → ⊥) → (t ≡ 7 → ⊥) → t ≡ 6

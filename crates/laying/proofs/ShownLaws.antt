@@ -1,10 +1,10 @@
 -- Marks become tags: a byte, those of a word, all.
 use Rattle.std.specs.Prelude.{if◌then◌else◌}
-use Rattle.rules.proofs.Basics.{◌≡◌, refl, sym, ap, subst, ◌∙◌, List, [], ◌∷◌, ◌++◌, Bool, true, false, ℕ, zero, suc, ◌+◌, ◌-◌, ◌*◌, ◌/◌, ◌%◌, ◌^◌, ◌<◌, ◌≤◌, zero-add, div-one, arith, dec_lt, eqb, eq-eqb, ne_eqb, length, get_or, take, drop, set, length-set, drop-drop, take-suc, drop-cons, take_all, drop_of_length-le}
+use Rattle.rules.proofs.Basics.{◌≡◌, refl, sym, ap, subst, ◌∙◌, List, [], ◌∷◌, ◌++◌, Bool, true, false, ℕ, zero, suc, ◌+◌, ◌-◌, ◌*◌, ◌/◌, ◌%◌, ◌^◌, ◌<◌, ◌≤◌, zero-add, arith, dec_lt, eqb, eq-eqb, ne_eqb, length, get_or, take, drop, set, length-set, drop-drop, take-suc, drop-cons, take_all, drop_of_length-le, min, length-take-le}
 use native.Mathlib.Nat.{div-eq_of_lt, lt_trans}
 use lib.Pow.{pow_pos, pow-lt, shr-shr}
 use lib.Bits.{bit_or, or_add_and, and_le_l, and_le_r}
-use lib.Seq.{take-suc-set, drop-set-lt, get_or-drop}
+use lib.Seq.{take-suc-set, drop-set-lt, get_or-drop, get_or-take}
 use Rattle.rules.specs.Answers.{changed}
 use Rattle.rules.specs.Marks.{bit_at, marked, painted}
 use Rattle.laying.specs.Painted.{Shown, ShownAll, WordAt}
@@ -84,23 +84,19 @@ module _ {ws s₀ : List ℕ} {at : ℕ} {s : List ℕ} {n : ℕ} (p : Shown ws 
 
   -- a byte by its bit
   module _ (h : at < length s) where
-    pub shown_clear : {bit : ℕ} → bit ≡ bit_at ws at → bit ≡ 0 → Shown ws s₀ (at + 1) s n
-    unfolding marked
-    shown_clear e z = shown_none (ap (λ (b : ℕ). eqb b 1) (sym e ∙ z))
+    pub shown_clear : {is_marked : Bool} → is_marked ≡ marked ws at → is_marked ≡ false → Shown ws s₀ (at + 1) s n
+    shown_clear e z = shown_none (sym e ∙ z)
 
-    is_three : {bit : ℕ} → bit ≡ bit_at ws at → (bit ≡ 0 → ⊥) → get_or (painted ws s₀) at 0 ≡ 3
-    unfolding marked
-    is_three {bit} e z =
-        let one : bit_at ws at ≡ 1 = omega (arith, e, z) in
-        painted_at ws s₀ at (omega (arith, h, p.long)) ∙ ap (λ (b : ℕ). if eqb b 1 then 3 else get_or s₀ at 0) one
+    is_three : {is_marked : Bool} → is_marked ≡ marked ws at → is_marked ≡ true → get_or (painted ws s₀) at 0 ≡ 3
+    is_three e z = painted_at ws s₀ at (omega (arith, h, p.long)) ∙ ap (λ (b : Bool). if b then 3 else get_or s₀ at 0) (sym e ∙ z)
 
-    pub shown_three : {bit : ℕ} → bit ≡ bit_at ws at → (bit ≡ 0 → ⊥) → get_or s at 0 ≡ 3 → Shown ws s₀ (at + 1) s n
+    pub shown_three : {is_marked : Bool} → is_marked ≡ marked ws at → is_marked ≡ true → get_or s at 0 ≡ 3 → Shown ws s₀ (at + 1) s n
     shown_three e z t =
         let q : get_or (painted ws s₀) at 0 ≡ 3 = is_three e z in
         let same : one_unless (eqb (get_or s₀ at 0) (get_or (painted ws s₀) at 0)) ≡ 0 = ap one_unless (eq-eqb _ _ (sym same_byte ∙ t ∙ sym q)) in
         shown_step (omega (arith, h, p.long)) refl (take-suc s at 0 h ∙ ap (λ (x : ℕ). take at s ++ (x ∷ [])) (t ∙ sym q)) refl (omega (arith, same))
 
-    pub shown_set : {bit : ℕ} → bit ≡ bit_at ws at → (bit ≡ 0 → ⊥) → (get_or s at 0 ≡ 3 → ⊥) → Shown ws s₀ (at + 1) (set s at 3) (n + 1)
+    pub shown_set : {is_marked : Bool} → is_marked ≡ marked ws at → is_marked ≡ true → (get_or s at 0 ≡ 3 → ⊥) → Shown ws s₀ (at + 1) (set s at 3) (n + 1)
     shown_set e z t =
         let q : get_or (painted ws s₀) at 0 ≡ 3 = is_three e z in
         let new : one_unless (eqb (get_or s₀ at 0) (get_or (painted ws s₀) at 0)) ≡ 1 = ap one_unless (ne_eqb _ _ (λ o. t (same_byte ∙ o ∙ q))) in
@@ -141,11 +137,6 @@ pub record InWord (from word count : ℕ) (s₀ : List ℕ) (rest at : ℕ) (s :
   pub rest_is : rest ≡ word / 2 ^ (at - from)
   pub shown : (ws u : List ℕ) → WordAt ws from word → Shown ws u from s₀ count → Shown ws u at s n
 
-pub word_starts : (from word count : ℕ) (s : List ℕ) → count ≤ from → InWord from word count s word from s count
-word_starts from word count s l =
-    let e : from - from ≡ 0 = omega arith in
-    record { begins = omega arith; ends = omega arith; long = refl; few = l; rest_is = sym (ap (λ (k : ℕ). word / 2 ^ k) e ∙ div-one word); shown = λ ws u W p. p }
-
 module _ {from word count : ℕ} {s₀ : List ℕ} {rest at : ℕ} {s : List ℕ} {n : ℕ} (p : InWord from word count s₀ rest at s n) where
   -- a word has 64 places
   far : (at < from + 64 → ⊥) → at - from ≡ 64
@@ -158,7 +149,8 @@ module _ {from word count : ℕ} {s₀ : List ℕ} {rest at : ℕ} {s : List ℕ
   ]
 
   pub word_turn : word < 2 ^ 64 → (rest ≡ 0 → ⊥) → {s' : List ℕ} {r : ℕ} → length s' ≡ length s
-      → (r ≤ at + 1) × ((ws u : List ℕ) → rest % 2 ≡ bit_at ws at → Shown ws u at s n → Shown ws u (at + 1) s' r) → InWord from word count s₀ (rest / 2) (at + 1) s' r
+      → (r ≤ at + 1) × ((ws u : List ℕ) → eqb (rest % 2) 1 ≡ marked ws at → Shown ws u at s n → Shown ws u (at + 1) s' r) → InWord from word count s₀ (rest / 2) (at + 1) s' r
+  unfolding marked
   word_turn w z {s'} {r} l c =
       let h : at < from + 64 = inside w z in
       let e : from + (at - from) ≡ at = omega (arith, p.begins) in
@@ -169,7 +161,7 @@ module _ {from word count : ℕ} {s₀ : List ℕ} {rest at : ℕ} {s : List ℕ
         long = l ∙ p.long;
         few = c.0;
         rest_is = ap (λ (x : ℕ). x / 2) p.rest_is ∙ shr-shr word (at - from) 1 ∙ ap (λ (k : ℕ). word / 2 ^ k) f;
-        shown = λ ws u W q. c.1 ws u (ap (λ (x : ℕ). x % 2) p.rest_is ∙ word_bit W (at - from) (omega (arith, h, p.begins)) ∙ ap (bit_at ws) e) (p.shown ws u W q);
+        shown = λ ws u W q. c.1 ws u (ap (λ (b : ℕ). eqb b 1) (ap (λ (x : ℕ). x % 2) p.rest_is ∙ word_bit W (at - from) (omega (arith, h, p.begins)) ∙ ap (bit_at ws) e)) (p.shown ws u W q);
       }
 
   -- four places without a mark
@@ -231,23 +223,10 @@ pub record InWords (ws s₀ : List ℕ) (i : ℕ) (s : List ℕ) (n : ℕ) : Typ
   pub near : i * 64 ≤ length s₀ + 64
   pub shown : Shown ws s₀ (i * 64) s n
 
-pub words_start : (ws s : List ℕ) → InWords ws s 0 s 0
-words_start ws s = record { few = omega arith; near = omega arith; shown = shown_starts ws s }
-
 module _ {ws s₀ : List ℕ} {i : ℕ} {s : List ℕ} {n : ℕ} (p : InWords ws s₀ i s n) where
-  pub words_turn : i * 64 < length s → {word : ℕ} → word ≡ get_or ws i 0 → {s' : List ℕ} {r : ℕ}
-      → (r ≤ i * 64 + 64) × ((ws u : List ℕ) → WordAt ws (i * 64) word → Shown ws u (i * 64) s n → Shown ws u (i * 64 + 64) s' r) → InWords ws s₀ (i + 1) s' r
-  words_turn h e {s'} {r} c =
-      let f : i * 64 + 64 ≡ (i + 1) * 64 = omega arith in
-      let q : i * 64 / 64 ≡ i = omega arith in
-      record {
-        few = omega (arith, c.0);
-        near = omega (arith, h, p.shown.long);
-        shown = subst (λ (k : ℕ). Shown ws s₀ k s' r) f (c.1 ws s₀ (record { first = omega arith; is = e ∙ ap (λ (k : ℕ). get_or ws k 0) (sym q) }) p.shown);
-      }
-
-  pub words_end : length s ≤ i * 64 → ShownAll ws s₀ s n
-  words_end h = shown_ends p.shown h
+  -- no word is left of those that hold a place's mark
+  pub words_end : length s₀ ≤ 60_000 → length ws ≡ 938 → {k : ℕ} → k ≡ length s₀ / 64 + min 1 (length s₀ % 64) → length (take k ws) ≤ i → ShownAll ws s₀ s n
+  words_end h l {k} e g = shown_ends p.shown (omega (arith, e, g, p.shown.long, length-take-le k ws (omega (arith, e, h, l))))
 
 -- ---- all marks together
 
@@ -269,5 +248,11 @@ unfolding changed
 none_changed k [] = refl
 none_changed k (x ∷ s) = rw (eq-eqb x x refl) (none_changed (suc k) s)
 
-pub nothing_shown : (ws s : List ℕ) {all : ℕ} → Most ws ((length s + 63) / 64) all → all ≡ 0 → ShownAll ws s s 0
-nothing_shown ws s m z = record { bytes = sym (painted_clear ws s (λ i h. omega (arith, m (i / 64) (omega arith), z))); count = sym (none_changed 0 s) }
+pub nothing_shown : (ws s : List ℕ) → length ws ≡ 938 → length s ≤ 60_000 → {k : ℕ} → k ≡ length s / 64 + min 1 (length s % 64) → {all : ℕ} → Most (take k ws) (length (take k ws)) all → all ≡ 0
+    → ShownAll ws s s 0
+nothing_shown ws s l h {k} e m z = record { bytes = sym (painted_clear ws s none); count = sym (none_changed 0 s) }
+  where
+    none : (i : ℕ) → i < length s → get_or ws (i / 64) 0 ≡ 0
+    none i g =
+        let inside : i / 64 < k = omega (arith, e, g) in
+        omega (arith, m (i / 64) (omega (arith, inside, length-take-le k ws (omega (arith, e, h, l)))), get_or-take k ws (i / 64) 0 inside, z)

@@ -30,8 +30,8 @@ along_starts {s} {end} {from} {so_far} l P = record { ahead = ahead_starts (take
 
 module _ {s : List ℕ} {end from : ℕ} {so-far₀ : Shape} {at : ℕ} {so_far : Shape} {first bound : ℕ} (p : Along s end from so-far₀ at so_far first bound) where
   -- something is wrong
-  pub along_wrong : ((d : ℕ) → Wrong (Rest d s end at)) → {layout : Shape} {first' bound' stop : ℕ} {last : Shape} → stop ≡ from → StretchTold s end from so-far₀ layout first' bound' stop last
-  along_wrong w e = record { wrong = λ o d. looked_wrong p.looked d (w d); sound = λ n. absurd (n e); laid = λ n. absurd (n e) }
+  pub along_wrong : ((d : ℕ) → Wrong (Rest d s end at)) → (d : ℕ) → Wrong (Rest d s end from)
+  along_wrong w d = looked_wrong p.looked d (w d)
 
   -- a node
   module _ {t v to : ℕ} (A : At s end at t v to) (right : allowed in_fragment 0 t ≡ true) {own : ℕ} (N : NodeTold s t at to own) (o : own ≡ bad → ⊥) where
@@ -80,7 +80,7 @@ module _ {s : List ℕ} {end from : ℕ} {so-far₀ : Shape} {at : ℕ} {so_far 
       pub along_stops : {a b : ℕ} → shape own ≡ Block a b → {y r : Shape} → y ≡ Inline a 0 → r ≡ so_far ⊕ y → StretchTold s end from so-far₀ r first' bound' to (shape own)
       along_stops is q f =
           let S = ahead_stops p.ahead there ends m.marks own_is is q f in
-          record { wrong = λ e. absurd (omega (arith, e, S.rises)); sound = λ n. looked_seen m.looked refl; laid = λ n. S }
+          record { seen = looked_seen m.looked refl; laid = S }
 
   -- no node is left
   pub along_ends : from < end → end ≤ at → {last : Shape} → last ≡ Inline 0 0 → StretchTold s end from so-far₀ so_far first bound end last
@@ -88,4 +88,4 @@ module _ {s : List ℕ} {end from : ℕ} {so-far₀ : Shape} {at : ℕ} {so_far 
       let l : length (take end s) ≡ end = up_to p.looked.part in
       let z : at ≡ end = omega (arith, h, p.looked.part.rising) in
       let S = ahead_ends p.ahead (omega (arith, f, l)) (omega (arith, h, l)) e in
-      record { wrong = λ q. absurd (omega (arith, q, f)); sound = λ n. looked_seen p.looked z; laid = λ n. rw l at S }
+      record { seen = looked_seen p.looked z; laid = rw l at S }

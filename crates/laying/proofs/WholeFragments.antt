@@ -37,29 +37,29 @@ module _ {d i b from : ℕ} {s : List ℕ} {end : ℕ} {ws₀ : List ℕ} {at : 
       let v = passed_wrong p.passed w in
       record { words = e ∙ p.words; check = record { wrong = λ o. record { what = v.what; all = v.all 0 []; faulty = v.faulty }; sound = λ n. absurd (n refl) }; laid = λ n. absurd (n refl) }
 
-  module _ {layout : Shape} {first bound stop : ℕ} {last : Shape} (S : StretchTold s end at h layout first bound stop last) (o : stop ≡ at → ⊥) where
+  module _ {layout : Shape} {first bound stop : ℕ} {last : Shape} (S : StretchTold s end at h layout first bound stop last) where
     -- what the walk over its blocks asks for
     pub blocks_clear : Clear ws s first
-    blocks_clear = clear_later p.clear (S.sound o).begins
+    blocks_clear = clear_later p.clear S.seen.begins
 
     pub blocks_end : stop ≤ end
-    blocks_end = omega (arith, (S.laid o).inside, length-take-le end s p.part.ends)
+    blocks_end = omega (arith, S.laid.inside, length-take-le end s p.part.ends)
 
     pub blocks_part : Between s 0 bound end
-    blocks_part = record { behind = omega arith; rising = omega (arith, (S.laid o).bounded, blocks_end); ends = p.part.ends; small = p.part.small }
+    blocks_part = record { behind = omega arith; rising = omega (arith, S.laid.bounded, blocks_end); ends = p.part.ends; small = p.part.small }
 
     pub stretch_less : end - stop < end - at
-    stretch_less = omega (arith, (S.laid o).rises, blocks_end)
+    stretch_less = omega (arith, S.laid.rises, blocks_end)
 
     module _ {l : ℕ} {ws' : List ℕ} (W : StretchWalked d i b first bound layout s end ws l ws') where
       pub stretch_wrong : l ≡ bad → FragmentWalked d i b from s end ws₀ bad ws'
-      stretch_wrong e = nodes_wrong (passed_wrong ((S.sound o).lead d) (W.wrong e)) W.words
+      stretch_wrong e = nodes_wrong (passed_wrong (S.seen.lead d) (W.wrong e)) W.words
 
       pub stretch_on : (l ≡ bad → ⊥) → {next : Shape} → next ≡ behind_in last (shape l) → NodesAt d i b from s end ws₀ stop next ws'
       stretch_on n {next} e =
-          let T = S.laid o in
+          let T = S.laid in
           let same : length (take end (painted ws s)) ≡ length (take end s) = painted_up_to ws s end p.part.ends ∙ sym (length-take-le end s p.part.ends) in
-          let U : Stretched (take end (painted ws s)) at h layout first bound (stop, last) = stretched_same same (clear_in p.clear p.part.rising) (S.sound o).begins (path_rises T.middle) T in
+          let U : Stretched (take end (painted ws s)) at h layout first bound (stop, last) = stretched_same same (clear_in p.clear p.part.rising) S.seen.begins (path_rises T.middle) T in
           let L = W.laid n in
           let q : drop bound (painted ws' s) ≡ drop bound (painted ws s) =
           stays_behind (painted ws s) (painted ws' s) blocks_part.rising (omega (arith, p.part.ends, painted_long ws s)) (painted_long ws' s ∙ sym (painted_long ws s)) L.onwards.stays L.behind in
@@ -67,7 +67,7 @@ module _ {d i b from : ℕ} {s : List ℕ} {end : ℕ} {ws₀ : List ℕ} {at : 
             words = W.words ∙ p.words;
             clear = clear_on p.clear (omega (arith, T.rises)) W.words (later_same (painted ws s) (painted ws' s) T.bounded q);
             part = record { behind = omega arith; rising = blocks_end; ends = p.part.ends; small = p.part.small };
-            passed = passed_on p.passed (passed_on ((S.sound o).lead d) (passed_on (W.sound n) ((S.sound o).tail d)));
+            passed = passed_on p.passed (passed_on (S.seen.lead d) (passed_on (W.sound n) (S.seen.tail d)));
             changed = cap (p.changed + L.changed);
             laid = stretch_turn (32 - d) i b p.laid U L.onwards e refl;
             behind = L.behind ∙ p.behind;

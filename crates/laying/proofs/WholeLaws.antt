@@ -1,9 +1,9 @@
 -- Layout of a whole file: what is refused, and what an accepted file becomes.
+use Rattle.std.specs.Prelude.{Ok}
 use Rattle.rules.proofs.Basics.{◌≡◌, refl, sym, ap, ◌∙◌, List, [], false, ℕ, ◌*◌, ◌≤◌, arith, length, take, le-leb, take_all}
 use lib.Seq.{slice}
 use Rattle.rules.specs.Limits.{most_bytes, most_columns}
 use Rattle.rules.specs.Bytes.{newline}
-use Rattle.rules.specs.declared.Answer.TheVariants.{Done}
 use Rattle.rules.specs.Result.{Result, refused, accepted, ◌>>=◌, ◌>>◌, need, said}
 use Rattle.rules.specs.Walk.{in_fragment}
 use Rattle.rules.specs.Tree.{Frag}
@@ -54,7 +54,7 @@ module _ (w : ℕ) (s : List ℕ) (h : length s ≤ most_bytes) (g : w ≤ most_
       → (accepted (length (changed 0 s s')), s') ≡ layout_outcome w s
   unfolding left_laid ◌>>=◌ counted said
   laid_outcome b R {m} k {l} {s'} i =
-      let A : AcceptedAs s = accepted_as s (Done 0) b refl (walk_answers false s h R) in
+      let A : AcceptedAs s = accepted_as s (Ok 0) b refl (walk_answers false s h R) in
       let t : Frag ℕ = A.root in
       let x : fragment_in 32 m m 0 s ≡ fragment_in 32 (10 * w) (10 * w) 0 (encode t) = rw (k, A.read.encodes) refl in
       let bytes : s' ≡ encode (layout newline w t) = i.bytes ∙ ap (λ x. x.1) x ∙ (laid_tree rigid_leaf w t A.read.good).0 in

@@ -46,10 +46,6 @@ pub record LeafTold (s : List ℕ) (t at to r : ℕ) : Type 0 where
   pub check : Tells r (LeafSaid s t at to)
   pub layout : (r ≡ bad → ⊥) → shape r ≡ by_tag t (part s (at + 3) to)
 
--- a quick look: where it finds a layout
-pub record QuickTold (s : List ℕ) (t at to r : ℕ) : Type 0 where
-  pub found : (r ≡ bad → ⊥) → LeafTold s t at to r
-
 -- any node: of a block nothing is told but its rigid layout
 pub record NodeTold (s : List ℕ) (t at to r : ℕ) : Type 0 where
   pub check : is_block t ≡ false → Tells r (LeafSaid s t at to)
@@ -82,7 +78,7 @@ pub record Open (s : List ℕ) (end a b : ℕ) : Type 0 where
   pub count : ℕ
   pub nodes : Nodes s end count a b
 
--- ---- a stretch that begins at `from`: where its end is its beginning, something is wrong
+-- ---- a stretch that begins at `from`
 
 pub record Seen (s : List ℕ) (end from first bound stop : ℕ) : Type 0 where
   pub begins : from ≤ first
@@ -91,6 +87,5 @@ pub record Seen (s : List ℕ) (end from first bound stop : ℕ) : Type 0 where
   pub tail : (d : ℕ) → Passed d s end bound stop
 
 pub record StretchTold (s : List ℕ) (end from : ℕ) (so_far layout : Shape) (first bound stop : ℕ) (last : Shape) : Type 0 where
-  pub wrong : stop ≡ from → (d : ℕ) → Wrong (Rest d s end from)
-  pub sound : (stop ≡ from → ⊥) → Seen s end from first bound stop
-  pub laid : (stop ≡ from → ⊥) → Stretched (take end s) from so_far layout first bound (stop, last)
+  pub seen : Seen s end from first bound stop
+  pub laid : Stretched (take end s) from so_far layout first bound (stop, last)

@@ -12,37 +12,27 @@ ghost use Rattle.laying.specs.Beside.{Clear};
 ghost use Rattle.laying.specs.Walks.{Indented, Decided, NodeWalked, FragmentsWalked, StretchWalked, FragmentWalked};
 
 use crate::answer::{BAD, told};
-use crate::marks::mark;
-use crate::stretch::{ahead, behind, is_flexible};
+use crate::marks::{Marks, mark};
+use crate::stretch::{ahead, behind};
 use fields::parts::field_end_in;
 use fields::{Field, field_in};
 use rules::{INDENTATION, MOST_BLOCKS};
-use shapes::{
-    ApproxLayout, append, block_or_mixed, first, inline, is_block, saturating_sub, second,
-};
-
-fn larger(a: u16, b: u16) -> u16
-    ensures { result ≡ max a b }
-{
-    if a < b {
-        return b;
-    }
-    a
-}
+use shapes::{ApproxLayout, append, block_or_mixed, first, inline, is_block, second};
+use verify::tables;
 
 // The inline maximum that is left after what is laid out so far.
 fn room(inline_max: u16, block_max: u16, so_far: ApproxLayout) -> u16
     ensures { result ≡ rules.room inline_max block_max (shape so_far) }
 {
     if is_block(so_far) {
-        return saturating_sub(block_max, second(so_far));
+        return block_max.saturating_sub(second(so_far));
     }
-    saturating_sub(inline_max, first(so_far))
+    inline_max.saturating_sub(first(so_far))
 }
 
 // The block at `at` does not fit.
-fn indented(bits: &mut [u64; 938], at: usize, so_far: ApproxLayout) -> ApproxLayout
-    requires { (at < 60_000) × (length bits.old ≡ 938) }
+fn indented(bits: &mut Marks, at: usize, so_far: ApproxLayout) -> ApproxLayout
+    requires { at < 60_000 }
     ensures { Indented bits.old at (shape so_far) result bits.new }
 {
     mark(bits, at);
@@ -51,30 +41,31 @@ fn indented(bits: &mut [u64; 938], at: usize, so_far: ApproxLayout) -> ApproxLay
 
 // The block at `at`, whose fragments took up `own`: it stays inline where they fit the inline maximum, less what stands only in a block.
 fn decide(
-    bits: &mut [u64; 938],
+    bits: &mut Marks,
     at: usize,
     inline_max: u16,
     so_far: ApproxLayout,
     own: ApproxLayout,
 ) -> ApproxLayout
-    requires { (at < 60_000) × (length bits.old ≡ 938) }
+    requires { at < 60_000 }
     ensures { Decided bits.old at inline_max (shape so_far) (shape own) result bits.new }
 {
     if is_block(own) {
         return indented(bits, at, so_far);
     }
-    let candidate = saturating_sub(first(own), second(own));
+    let candidate = first(own).saturating_sub(second(own));
     if inline_max < candidate {
         return indented(bits, at, so_far);
     }
     told(append(so_far, inline(candidate, 0)))
 }
 
-// A block, from `at` to `to`, after what is laid out so far.
+// A block, from `at` to `to`, after what is laid out so far. File, marks and the two widths stay parameters of their own, no plainer as a struct: each call makes the widths
+// anew, and a struct that borrows the rest is taken apart by every proof.
 #[cycle(approx_flex_layout_approx_fragments_layout_approx_layout_approx_stretch_layout)]
 fn approx_flex_layout(
     s: &[u8],
-    bits: &mut [u64; 938],
+    bits: &mut Marks,
     at: usize,
     to: usize,
     inline_max: u16,
@@ -88,7 +79,7 @@ fn approx_flex_layout(
     if MOST_BLOCKS <= depth {
         return BAD;
     }
-    let block = saturating_sub(block_max, INDENTATION);
+    let block = block_max.saturating_sub(INDENTATION);
     let from = at + 3;
     if s[at] == 3 {
         let l = approx_fragments_layout(s, bits, from, to, block, block, depth + 1);
@@ -98,7 +89,7 @@ fn approx_flex_layout(
         return told(append(so_far, block_or_mixed(0, 0)));
     }
     let most = room(inline_max, block_max, so_far);
-    let l = approx_fragments_layout(s, bits, from, to, larger(most, block), block, depth + 1);
+    let l = approx_fragments_layout(s, bits, from, to, most.max(block), block, depth + 1);
     if l == BAD {
         return BAD;
     }
@@ -109,7 +100,7 @@ fn approx_flex_layout(
 #[cycle(approx_flex_layout_approx_fragments_layout_approx_layout_approx_stretch_layout)]
 fn approx_fragments_layout(
     s: &[u8],
-    bits: &mut [u64; 938],
+    bits: &mut Marks,
     from: usize,
     end: usize,
     inline_max: u16,
@@ -121,6 +112,7 @@ fn approx_fragments_layout(
 {
     let mut layout = inline(0, 0);
     let mut at = from;
+    // no plainer by an iterator: each field says where the next begins, and the first fault ends the walk
     while at < end {
         let f = field_in(s, at, end);
         let Field::Whole { tag, from: v, to } = f else {
@@ -143,7 +135,7 @@ fn approx_fragments_layout(
 #[cycle(approx_flex_layout_approx_fragments_layout_approx_layout_approx_stretch_layout)]
 fn approx_stretch_layout(
     s: &[u8],
-    bits: &mut [u64; 938],
+    bits: &mut Marks,
     start: usize,
     bound: usize,
     end: usize,
@@ -157,9 +149,10 @@ fn approx_stretch_layout(
 {
     let mut layout = so_far;
     let mut node = start;
+    // as above
     while node < bound {
         let to = field_end_in(s, node, end);
-        if !is_flexible(s[node]) {
+        if !tables::is_block(s[node]) {
             node = to;
             continue;
         }
@@ -177,7 +170,7 @@ fn approx_stretch_layout(
 #[cycle(approx_flex_layout_approx_fragments_layout_approx_layout_approx_stretch_layout)]
 pub fn approx_layout(
     s: &[u8],
-    bits: &mut [u64; 938],
+    bits: &mut Marks,
     from: usize,
     end: usize,
     inline_max: u16,
@@ -189,11 +182,11 @@ pub fn approx_layout(
 {
     let mut layout = inline(0, 0);
     let mut at = from;
+    // a stretch says where the next begins, as a field does above
     while at < end {
-        let st = ahead(s, at, end, layout);
-        if st.stop == at {
+        let Some(st) = ahead(s, at, end, layout) else {
             return BAD;
-        }
+        };
         let l = approx_stretch_layout(
             s, bits, st.first, st.bound, end, inline_max, block_max, st.layout, depth,
         );

@@ -1,15 +1,15 @@
 // Layout of a whole file at a width: the first walk, which marks what changes, then the marks.
 ghost use Rattle.std.specs.Prelude.{◌≡◌, ◌*◌, ◌≤◌, length};
 ghost use Rattle.rules.specs.Limits.{most_bytes, most_columns};
-ghost use Rattle.rules.specs.Result as Result;
+ghost use Rattle.rules.specs.Result.{said};
 ghost use Rattle.rules.specs.Answers.{layout_outcome};
 ghost use Rattle.laying.specs.Beside.{Clear};
 ghost use Rattle.laying.specs.Outcomes.{FirstWalk};
 
 use crate::answer::BAD;
 use crate::flex::approx_layout;
-use crate::marks::show_all;
-use rules::{Answer, MOST_BYTES, MOST_COLUMNS, Refusal};
+use crate::marks::{Marks, WORDS, show_all};
+use rules::{MOST_BYTES, MOST_COLUMNS, Refusal};
 use shapes::ApproxLayout;
 use verify::walk::check;
 
@@ -22,7 +22,7 @@ fn tenths(width: usize) -> u16
 }
 
 // Answers a layout where the file is accepted, with the marks of what its layout changes; and else that it is not, which the check then says exactly.
-pub fn first_walk(file: &[u8], width: usize, bits: &mut [u64; 938]) -> ApproxLayout
+pub fn first_walk(file: &[u8], width: usize, bits: &mut Marks) -> ApproxLayout
     requires { (length file.now ≤ most_bytes) × ((width ≤ most_columns) × Clear bits.old file.now 0) }
     ensures { FirstWalk width file.now result bits.new }
 {
@@ -31,18 +31,18 @@ pub fn first_walk(file: &[u8], width: usize, bits: &mut [u64; 938]) -> ApproxLay
 }
 
 // Answers how many tags changed; a refusal changes none.
-pub fn layout_with_max_line_width(file: &mut [u8], width: usize) -> Answer
-    ensures { (Result.said result, file.new) ≡ layout_outcome width file.old }
+pub fn layout_with_max_line_width(file: &mut [u8], width: usize) -> Result<usize, Refusal>
+    ensures { (said result, file.new) ≡ layout_outcome width file.old }
 {
     if MOST_BYTES < file.len() {
-        return Answer::Refused(Refusal::TooLong);
+        return Err(Refusal::TooLong);
     }
     if MOST_COLUMNS < width {
-        return Answer::Refused(Refusal::TooWide);
+        return Err(Refusal::TooWide);
     }
-    let mut bits = [0u64; 938];
+    let mut bits = [0u64; WORDS];
     if first_walk(file, width, &mut bits) == BAD {
         return check(file);
     }
-    Answer::Done(show_all(file, &bits))
+    Ok(show_all(file, &bits))
 }

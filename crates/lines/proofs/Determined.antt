@@ -1,14 +1,15 @@
 -- No second answer satisfies the contracts of this crate.
+use Rattle.std.specs.Prelude.{Option as Held, Some, None}
 use Rattle.rules.proofs.Basics.{◌≡◌, refl, sym, ◌∙◌, ap, List, [], ◌∷◌, ◌++◌, Option, none, some, ℕ, arith, length, take, length-append}
 use lib.Seq.{take-append_seam}
 use Rattle.rules.specs.Lines as rules
 use Rattle.rules.specs.Plain.{chars, fill}
 use Rattle.rules.specs.Answers.{itself}
 use Rattle.lines.specs.declared.LineState as L
-use Rattle.lines.specs.declared.Waiting as W
+use Rattle.lines.specs.declared.Break as B
 use Rattle.lines.specs.declared.Machine as M
 use Rattle.lines.specs.declared.Stepped as T
-use Rattle.lines.specs.Said.{line_of, waiting_of, machine_of, before_bytes, step_of}
+use Rattle.lines.specs.Said.{line_of, break_of, waiting_of, machine_of, before_bytes, step_of}
 
 -- ---- the machine
 
@@ -23,16 +24,16 @@ line_back L.TheVariants.Empty = refl
 line_back (L.TheVariants.Indented k) = refl
 line_back L.TheVariants.HasText = refl
 
-abbrev waiting_in : Option rules.Break → W.Waiting
-waiting_in none = W.TheVariants.Nothing
-waiting_in (some rules.a_space) = W.TheVariants.Space
-waiting_in (some rules.a_newline) = W.TheVariants.NewLine
+abbrev waiting_in : Option rules.Break → Held B.Break
+waiting_in none = None
+waiting_in (some rules.a_space) = Some B.TheVariants.Space
+waiting_in (some rules.a_newline) = Some B.TheVariants.NewLine
 
-waiting_back : (w : W.Waiting) → waiting_in (waiting_of w) ≡ w
-unfolding waiting_of
-waiting_back W.TheVariants.Nothing = refl
-waiting_back W.TheVariants.Space = refl
-waiting_back W.TheVariants.NewLine = refl
+waiting_back : (w : Held B.Break) → waiting_in (waiting_of w) ≡ w
+unfolding waiting_of break_of
+waiting_back None = refl
+waiting_back (Some B.TheVariants.Space) = refl
+waiting_back (Some B.TheVariants.NewLine) = refl
 
 abbrev machine_in : rules.Machine → M.Machine
 machine_in m = record { indent = m.level; line = line_in m.line; waiting = waiting_in m.waiting }

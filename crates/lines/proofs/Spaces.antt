@@ -1,31 +1,20 @@
--- What comes before an item: the target, and the waiting break with the spaces.
-use Rattle.std.specs.Prelude.{if◌then◌else◌}
-use Rattle.rules.proofs.Basics.{◌≡◌, refl, ap, ◌∙◌, List, [], ◌++◌, none, Bool, true, false, ℕ, ◌<◌, arith, eqb}
+-- What comes before an item: the waiting break with the spaces.
+use Rattle.std.specs.Prelude.{Option as Held, Some, None}
+use Rattle.rules.proofs.Basics.{◌≡◌, refl, ap, ◌∙◌, List, [], ◌++◌, none, Bool, ℕ}
 use Rattle.rules.specs.Lines as rules
-use Rattle.lines.specs.declared.Waiting as W
+use Rattle.lines.specs.declared.Break as B
 use Rattle.lines.specs.declared.Machine as M
 use Rattle.lines.specs.declared.Brought as S
 use Rattle.lines.specs.declared.Stepped as T
-use Rattle.lines.specs.Said.{line_of, waiting_of, machine_of, step_of, brought_of, before_bytes, break_bytes, spacing_bytes}
-
--- ---- the target
-
-pub target_below : (level : ℕ) (bare : Bool) (k : ℕ) {t n : ℕ} → t ≡ rules.target level bare k → level < n → t < n
-unfolding rules.target
-target_below level false k e h = rw e h
-target_below level true k {t} {n} e h = go (eqb k 0) e
-  where
-    go : (b : Bool) → t ≡ (if b then 0 else level) → t < n
-    go true e = omega arith
-    go false e = omega arith
+use Rattle.lines.specs.Said.{line_of, break_of, waiting_of, machine_of, step_of, brought_of, before_bytes, break_bytes, spacing_bytes}
 
 -- ---- the waiting break, and the bytes after it
 
-waited : (w : W.Waiting) (l : rules.Line) (bs : List ℕ) (is : List (rules.Item ℕ)) → rules.making (break_bytes w ++ bs) ++ is ≡ (rules.release (waiting_of w) l).0 ++ (rules.making bs ++ is)
-unfolding rules.release rules.making waiting_of break_bytes
-waited W.TheVariants.Nothing l bs is = refl
-waited W.TheVariants.Space l bs is = refl
-waited W.TheVariants.NewLine l bs is = refl
+waited : (w : Held B.Break) (l : rules.Line) (bs : List ℕ) (is : List (rules.Item ℕ)) → rules.making (break_bytes w ++ bs) ++ is ≡ (rules.release (waiting_of w) l).0 ++ (rules.making bs ++ is)
+unfolding rules.release rules.making waiting_of break_of break_bytes
+waited None l bs is = refl
+waited (Some B.TheVariants.Space) l bs is = refl
+waited (Some B.TheVariants.NewLine) l bs is = refl
 
 -- ---- ready for an item
 
@@ -34,7 +23,7 @@ pub made_ready : (m : M.Machine) (bare : Bool) {l : rules.Line} (s : S.Brought) 
     → brought_of s ≡ rules.spacing m.indent bare l
     → r ≡ record {
       before = record { waiting = m.waiting; new_line = s.new_line; spaces = s.spaces };
-      machine = record { indent = m.indent; line = s.line; waiting = W.TheVariants.Nothing };
+      machine = record { indent = m.indent; line = s.line; waiting = None };
     }
     → step_of r [] ≡ rules.item (machine_of m) bare [] (λ l. l)
 unfolding step_of machine_of waiting_of before_bytes brought_of rules.item

@@ -1,23 +1,24 @@
 -- An operation's whole step, from what comes before its items.
+use Rattle.std.specs.Prelude.{Option as Held, Some, None}
 use Rattle.rules.proofs.Basics.{◌≡◌, refl, sym, ap, ◌∙◌, List, [], ◌∷◌, ◌++◌, append-nil, append_assoc, Bool, false, ℕ, arith, length}
 use Rattle.rules.specs.Lines as rules
 use Rattle.lines.specs.declared.LineState as L
-use Rattle.lines.specs.declared.Waiting as W
+use Rattle.lines.specs.declared.Break as B
 use Rattle.lines.specs.declared.Machine as M
 use Rattle.lines.specs.declared.Stepped as T
 use Rattle.lines.specs.Said.{line_of, waiting_of, machine_of, before_bytes, break_bytes, spacing_bytes, step_of, copies}
 
 -- ---- no item
 
-pub only_break : (w : W.Waiting) (m : M.Machine) {r : T.Stepped} → r ≡ record { before = record { waiting = w; new_line = false; spaces = 0 }; machine = m } → step_of r [] ≡ (rules.making (break_bytes w), machine_of m)
+pub only_break : (w : Held B.Break) (m : M.Machine) {r : T.Stepped} → r ≡ record { before = record { waiting = w; new_line = false; spaces = 0 }; machine = m } → step_of r [] ≡ (rules.making (break_bytes w), machine_of m)
 unfolding step_of before_bytes break_bytes spacing_bytes rules.making
-only_break W.TheVariants.Nothing m is = rw is refl
-only_break W.TheVariants.Space m is = rw is refl
-only_break W.TheVariants.NewLine m is = rw is refl
+only_break None m is = rw is refl
+only_break (Some B.TheVariants.Space) m is = rw is refl
+only_break (Some B.TheVariants.NewLine) m is = rw is refl
 
 -- nothing is written
 abbrev Silent : T.Stepped → rules.Machine → Type 0
-Silent r n = step_of r [] ≡ (rules.making (break_bytes W.TheVariants.Nothing), n)
+Silent r n = step_of r [] ≡ (rules.making (break_bytes None), n)
 
 -- ---- an item
 
@@ -50,7 +51,7 @@ empty_part m (x ∷ v) r z h = absurd (omega arith)
 
 -- of what comes before an item the bytes are kept; the line has text then
 pub text_part : (m : M.Machine) (v : List ℕ) (q : T.Stepped) {r : T.Stepped} → (length v ≡ 0 → ⊥) → Ready q m false
-    → r ≡ record { before = q.before; machine = record { indent = m.indent; line = L.TheVariants.HasText; waiting = W.TheVariants.Nothing } }
+    → r ≡ record { before = q.before; machine = record { indent = m.indent; line = L.TheVariants.HasText; waiting = None } }
     → step_of r (copies v) ≡ rules.step (machine_of m) (rules.part v)
 unfolding rules.step rules.item step_of machine_of line_of waiting_of copies
 text_part m [] q z h is = absurd (z refl)

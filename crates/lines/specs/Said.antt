@@ -1,12 +1,11 @@
 -- What the code's machine, its operations and what it has written stand for in the rules.
-use Rattle.std.specs.Prelude.{List, [], ◌∷◌, ◌++◌, map, Bool, ℕ, replicate, if◌then◌else◌}
+use Rattle.std.specs.Prelude.{Option as Held, Some, None, List, [], ◌∷◌, ◌++◌, map, Bool, ℕ, replicate, if◌then◌else◌}
 use Rattle.std.proofs.Math.Option.{Option, none, some}
 use Rattle.rules.specs.Lines as rules
 use Rattle.styles.specs.StylesIn.{styles_in}
 use Rattle.lines.specs.declared.Break as B
 use Rattle.lines.specs.declared.LineOp as O
 use Rattle.lines.specs.declared.LineState as L
-use Rattle.lines.specs.declared.Waiting as W
 use Rattle.lines.specs.declared.Machine as M
 use Rattle.lines.specs.declared.Before as F
 use Rattle.lines.specs.declared.Brought as S
@@ -21,20 +20,19 @@ line_of L.TheVariants.Empty = rules.empty
 line_of (L.TheVariants.Indented k) = rules.indented_by k
 line_of L.TheVariants.HasText = rules.has_text
 
-unfoldable pub waiting_of : W.Waiting → Option rules.Break
-waiting_of W.TheVariants.Nothing = none
-waiting_of W.TheVariants.Space = some rules.a_space
-waiting_of W.TheVariants.NewLine = some rules.a_newline
+unfoldable pub waiting_of : Held B.Break → Option rules.Break
+waiting_of None = none
+waiting_of (Some b) = some (break_of b)
 
 unfoldable pub machine_of : M.Machine → rules.Machine
 machine_of m = record { level = m.indent; line = line_of m.line; waiting = waiting_of m.waiting }
 
 -- ---- what is written before an item
 
-unfoldable pub break_bytes : W.Waiting → List ℕ
-break_bytes W.TheVariants.Nothing = []
-break_bytes W.TheVariants.Space = 32 ∷ []
-break_bytes W.TheVariants.NewLine = 10 ∷ []
+unfoldable pub break_bytes : Held B.Break → List ℕ
+break_bytes None = []
+break_bytes (Some B.TheVariants.Space) = 32 ∷ []
+break_bytes (Some B.TheVariants.NewLine) = 10 ∷ []
 
 unfoldable pub spacing_bytes : Bool → ℕ → List ℕ
 spacing_bytes new_line spaces = (if new_line then 10 ∷ [] else []) ++ replicate spaces 32

@@ -1,20 +1,20 @@
 // The line machine: one line operation at a time, its state by value. It says what is written before an operation's own item, and writes
 // nothing itself. A text, a style's fields and an anchor's name stand beside the operation.
 
-#![tactic(auto)]
+// The definitions that each goal here is opened to, and the law of an operation with items of its own.
+#![tactic(auto, using(crate::proofs::Steps::with_items), unfolding(crate::specs::Said::break_of, crate::specs::Said::line_of, crate::specs::Said::waiting_of, crate::specs::Said::machine_of, crate::specs::Said::break_bytes, crate::specs::Said::spacing_bytes, crate::specs::Said::brought_of, crate::specs::Said::operation, crate::specs::Said::own, rules::specs::Lines::start, rules::specs::Lines::target, rules::specs::Lines::levels, rules::specs::Lines::spacing, rules::specs::Lines::making, rules::specs::Lines::release, rules::specs::Lines::step, rules::specs::Lines::ignored, rules::specs::Lines::joined, rules::specs::Lines::broken))]
 
-ghost use Rattle.std.specs.Prelude.{◌≡◌, [], ℕ, ◌<◌, ◌^◌};
-ghost use Rattle.std.proofs.Math.Option.{some};
+ghost use Rattle.std.specs.Prelude.{◌≡◌, [], ℕ, ◌<◌, ◌≤◌, ◌^◌};
 ghost use Rattle.rules.specs.Lines as rules;
 ghost use Rattle.lines.specs.Said.{line_of, waiting_of, break_of, machine_of, step_of, brought_of, break_bytes, copies, operation, own};
 
-#[derive(Clone, Copy, Drop)]
+#[derive(Debug, Clone, Copy, PartialEq, Eq)]
 pub enum Break {
     Space,
     NewLine,
 }
 
-#[derive(Clone, Copy, Drop)]
+#[derive(Debug, Clone, Copy, PartialEq, Eq)]
 pub enum LineOp {
     PushIndent,
     PopIndent,
@@ -28,43 +28,36 @@ pub enum LineOp {
     BreakIfWithinLine(Break),
 }
 
-#[derive(Clone, Copy, Drop)]
+#[derive(Debug, Clone, Copy, PartialEq, Eq)]
 pub enum LineState {
     Empty,
     Indented(usize),
     HasText,
 }
 
-#[derive(Clone, Copy, Drop)]
-pub enum Waiting {
-    Nothing,
-    Space,
-    NewLine,
-}
-
-#[derive(Clone, Copy, Drop)]
+#[derive(Debug, Clone, Copy, PartialEq, Eq)]
 pub struct Machine {
     pub indent: usize,
     pub line: LineState,
-    pub waiting: Waiting,
+    pub waiting: Option<Break>,
 }
 
 // What is written before an item: the break that waited, a newline where the line has too many levels, spaces.
-#[derive(Drop)]
+#[derive(Debug, Clone, Copy, PartialEq, Eq)]
 pub struct Before {
-    pub waiting: Waiting,
+    pub waiting: Option<Break>,
     pub new_line: bool,
     pub spaces: usize,
 }
 
-#[derive(Drop)]
+#[derive(Debug, Clone, Copy, PartialEq, Eq)]
 pub struct Stepped {
     pub before: Before,
     pub machine: Machine,
 }
 
 // What brings a line to its target, and the line then.
-#[derive(Drop)]
+#[derive(Debug, Clone, Copy, PartialEq, Eq)]
 pub struct Brought {
     pub new_line: bool,
     pub spaces: usize,
@@ -77,20 +70,15 @@ pub fn start() -> Machine
     Machine {
         indent: 0,
         line: LineState::Empty,
-        waiting: Waiting::Nothing,
+        waiting: None,
     }
 }
 
 // The levels that an item wants: the indent, or 0 for an empty anchor (`bare`) on a line without levels.
 fn target_indent(indent: usize, bare: bool, k: usize) -> usize
-    ensures { result ≡ rules.target indent bare k }
+    ensures { (result ≡ rules.target indent bare k) × (result ≤ indent) }
 {
-    if bare {
-        if k == 0 {
-            return 0;
-        }
-    }
-    indent
+    if bare && k == 0 { 0 } else { indent }
 }
 
 // From k levels to t: a line that has too many is left for a new one.
@@ -98,16 +86,10 @@ fn levels(k: usize, t: usize) -> Brought
     requires { t < 2 ^ 32 }
     ensures { brought_of result ≡ (rules.levels k t, rules.indented_by t) }
 {
-    if t < k {
-        return Brought {
-            new_line: true,
-            spaces: 2 * t,
-            line: LineState::Indented(t),
-        };
-    }
+    let new_line = t < k;
     Brought {
-        new_line: false,
-        spaces: 2 * (t - k),
+        new_line,
+        spaces: if new_line { 2 * t } else { 2 * (t - k) },
         line: LineState::Indented(t),
     }
 }
@@ -129,13 +111,12 @@ fn spacing(indent: usize, bare: bool, line: LineState) -> Brought
 }
 
 // The line once the waiting break is written: a newline empties it.
-fn released(waiting: Waiting, line: LineState) -> LineState
+fn released(waiting: Option<Break>, line: LineState) -> LineState
     ensures { line_of result ≡ (rules.release {X = ℕ} (waiting_of waiting) (line_of line)).1 }
 {
     match waiting {
-        Waiting::Nothing => line,
-        Waiting::Space => line,
-        Waiting::NewLine => LineState::Empty,
+        Some(Break::NewLine) => LineState::Empty,
+        _ => line,
     }
 }
 
@@ -144,26 +125,23 @@ fn ready(m: Machine, bare: bool) -> Stepped
     requires { m.indent < 2 ^ 32 }
     ensures { step_of result [] ≡ rules.item (machine_of m) bare [] (λ l. l) }
 {
-    let waiting = m.waiting;
-    let line = m.line;
-    let s = spacing(m.indent, bare, released(waiting, line));
-    let line_then = s.line;
+    let s = spacing(m.indent, bare, released(m.waiting, m.line));
     Stepped {
         before: Before {
-            waiting,
+            waiting: m.waiting,
             new_line: s.new_line,
             spaces: s.spaces,
         },
         machine: Machine {
-            indent: m.indent,
-            line: line_then,
-            waiting: Waiting::Nothing,
+            line: s.line,
+            waiting: None,
+            ..m
         },
     }
 }
 
 // A step without an item: a break is written, or nothing.
-fn without_item(written: Waiting, machine: Machine) -> Stepped
+fn without_item(written: Option<Break>, machine: Machine) -> Stepped
     ensures { step_of result [] ≡ (rules.making (break_bytes written), machine_of machine) }
 {
     Stepped {
@@ -181,17 +159,15 @@ fn append_to_line(m: Machine, text: &[u8]) -> Stepped
     requires { m.indent < 2 ^ 32 }
     ensures { step_of result (copies text.now) ≡ rules.step (machine_of m) (rules.part text.now) }
 {
-    if text.len() == 0 {
-        return without_item(Waiting::Nothing, m);
+    if text.is_empty() {
+        return without_item(None, m);
     }
-    let r = ready(m, false);
-    let before = r.before;
     Stepped {
-        before,
+        before: ready(m, false).before,
         machine: Machine {
-            indent: m.indent,
             line: LineState::HasText,
-            waiting: Waiting::Nothing,
+            waiting: None,
+            ..m
         },
     }
 }
@@ -201,11 +177,11 @@ fn start_new_line(m: Machine) -> Stepped
     ensures { step_of result [] ≡ rules.step {X = ℕ} (machine_of m) rules.new_line }
 {
     without_item(
-        Waiting::NewLine,
+        Some(Break::NewLine),
         Machine {
-            indent: m.indent,
             line: LineState::Empty,
-            waiting: Waiting::Nothing,
+            waiting: None,
+            ..m
         },
     )
 }
@@ -221,38 +197,25 @@ fn ignored(indent: usize, line: LineState) -> bool
     }
 }
 
-fn waiting_for(b: Break) -> Waiting
-    ensures { waiting_of result ≡ some (break_of b) }
-{
-    match b {
-        Break::Space => Waiting::Space,
-        Break::NewLine => Waiting::NewLine,
-    }
-}
-
 // A break joins the one that waits, newline winning over space.
-fn joined(waiting: Waiting, b: Break) -> Waiting
-    ensures { waiting_of result ≡ some (rules.joined (waiting_of waiting) (break_of b)) }
+fn joined(waiting: Option<Break>, b: Break) -> Break
+    ensures { break_of result ≡ rules.joined (waiting_of waiting) (break_of b) }
 {
     match waiting {
-        Waiting::Nothing => waiting_for(b),
-        Waiting::Space => waiting_for(b),
-        Waiting::NewLine => Waiting::NewLine,
+        Some(Break::NewLine) => Break::NewLine,
+        _ => b,
     }
 }
 
 fn break_if_within_line(m: Machine, b: Break) -> Machine
     ensures { rules.step {X = ℕ} (machine_of m) (rules.break (break_of b)) ≡ ([], machine_of result) }
 {
-    let line = m.line;
-    if ignored(m.indent, line) {
+    if ignored(m.indent, m.line) {
         return m;
     }
-    let waiting = m.waiting;
     Machine {
-        indent: m.indent,
-        line,
-        waiting: joined(waiting, b),
+        waiting: Some(joined(m.waiting, b)),
+        ..m
     }
 }
 
@@ -260,27 +223,18 @@ fn push_indent(m: Machine) -> Machine
     requires { m.indent < 2 ^ 32 }
     ensures { rules.step {X = ℕ} (machine_of m) rules.indent ≡ ([], machine_of result) }
 {
-    let line = m.line;
-    let waiting = m.waiting;
     Machine {
         indent: m.indent + 1,
-        line,
-        waiting,
+        ..m
     }
 }
 
 fn pop_indent(m: Machine) -> Machine
     ensures { rules.step {X = ℕ} (machine_of m) rules.unindent ≡ ([], machine_of result) }
 {
-    if m.indent == 0 {
-        return m;
-    }
-    let line = m.line;
-    let waiting = m.waiting;
     Machine {
-        indent: m.indent - 1,
-        line,
-        waiting,
+        indent: m.indent.saturating_sub(1),
+        ..m
     }
 }
 
@@ -290,15 +244,15 @@ pub fn step(m: Machine, op: LineOp, text: &[u8]) -> Stepped
     ensures { step_of result (own op text.now) ≡ rules.step (machine_of m) (operation op text.now) }
 {
     match op {
-        LineOp::PushIndent => without_item(Waiting::Nothing, push_indent(m)),
-        LineOp::PopIndent => without_item(Waiting::Nothing, pop_indent(m)),
+        LineOp::PushIndent => without_item(None, push_indent(m)),
+        LineOp::PopIndent => without_item(None, pop_indent(m)),
         LineOp::PushStyles => ready(m, false),
         LineOp::PopStyles => ready(m, false),
-        LineOp::PushAnchor { is_def } => ready(m, false),
+        LineOp::PushAnchor { .. } => ready(m, false),
         LineOp::PopAnchor => ready(m, false),
-        LineOp::EmptyAnchor { is_def } => ready(m, true),
+        LineOp::EmptyAnchor { .. } => ready(m, true),
         LineOp::AppendToLine => append_to_line(m, text),
         LineOp::StartNewLine => start_new_line(m),
-        LineOp::BreakIfWithinLine(b) => without_item(Waiting::Nothing, break_if_within_line(m, b)),
+        LineOp::BreakIfWithinLine(b) => without_item(None, break_if_within_line(m, b)),
     }
 }

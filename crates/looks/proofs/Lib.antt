@@ -1,4 +1,3 @@
 -- Windows over a text, and what calm bytes and those that lack one are.
 pub mod Windows
-pub mod Lacking
 pub mod CalmBytes

@@ -1,27 +1,27 @@
--- Writings in a row are one writing of their joined texts.
+-- Texts that are put in a row are one text, put whole.
 use Rattle.rules.proofs.Basics.{◌≡◌, List, [], ◌∷◌, ℕ}
 use Rattle.rules.specs.Bytes.{join}
-use Rattle.writing.specs.Written.{Written}
-use Rattle.writing.proofs.Laws.{nothing, then}
+use Rattle.writing.specs.declared.Page.{Page}
+use Rattle.writing.specs.Written.{Put}
+use Rattle.writing.proofs.Laws.{put_nothing, put_then}
 
 infixr 20 ◌▸◌
--- texts that are written one after the other
-pub data Row : (page : List ℕ) (at : ℕ) (texts : List (List ℕ)) (page' : List ℕ) (r : ℕ) → Type 0 where
-  done : {page : List ℕ} {at : ℕ} → Row page at [] page at
-  ◌▸◌ : {page page' page'' : List ℕ} {at b r : ℕ} {text : List ℕ} {texts : List (List ℕ)} → Written page at text page' b → Row page' b texts page'' r
-      → Row page at (text ∷ texts) page'' r
+-- texts that are put one after the other
+pub data Row : (p : Page) (texts : List (List ℕ)) (q : Page) → Type 0 where
+  done : {p : Page} → Row p [] p
+  ◌▸◌ : {p q r : Page} {text : List ℕ} {texts : List (List ℕ)} → Put p text q → Row q texts r → Row p (text ∷ texts) r
 
-written : {page page' : List ℕ} {at r : ℕ} {texts : List (List ℕ)} → Row page at texts page' r → Written page at (join texts) page' r
+put_row : {p q : Page} {texts : List (List ℕ)} → Row p texts q → Put p (join texts) q
 unfolding join
-written done = nothing
-written (f ▸ fs) = then f (written fs)
+put_row done = put_nothing
+put_row (f ▸ fs) = put_then f (put_row fs)
 
-pub one_text : {page page' text : List ℕ} {at r : ℕ} {texts : List (List ℕ)} → join texts ≡ text → Row page at texts page' r → Written page at text page' r
-one_text e fs = rw e at (written fs)
+pub one_text : {p q : Page} {text : List ℕ} {texts : List (List ℕ)} → join texts ≡ text → Row p texts q → Put p text q
+one_text e fs = rw e at (put_row fs)
 
 -- one text, and none
-pub one_row : {page page' text t : List ℕ} {at r : ℕ} → join (t ∷ []) ≡ text → Written page at t page' r → Written page at text page' r
+pub one_row : {p q : Page} {text t : List ℕ} → join (t ∷ []) ≡ text → Put p t q → Put p text q
 one_row e f = one_text e (f ▸ done)
 
-pub no_row : {page text : List ℕ} {at : ℕ} → join [] ≡ text → Written page at text page at
+pub no_row : {p : Page} {text : List ℕ} → join [] ≡ text → Put p text p
 no_row e = one_text e done

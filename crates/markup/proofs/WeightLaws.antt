@@ -9,7 +9,6 @@ use Rattle.rules.specs.Digits.{signed_digits}
 use Rattle.rules.specs.Html.{weight_css}
 use Rattle.styles.specs.declared.Styles.{Styles}
 use Rattle.styles.specs.Said.{flagged, said_styles}
-use Rattle.styles.proofs.EveryByte.{fitting}
 
 -- the numbers that the code goes through
 abbrev held : ℤ → ℤ
@@ -18,30 +17,8 @@ held z = to_z w8 (of_z w8 z)
 abbrev wide : ℤ → ℤ
 wide z = to_z w32 (of_z w32 z)
 
-abbrev hundreds : ℤ → ℤ
-hundreds z = wide (held z) *ℤ pos 100
-
-abbrev sum : ℤ → ℤ
-sum z = pos 500 +ℤ wide (hundreds z)
-
 abbrev weight_of : ℤ → ℤ
 weight_of z = pos 500 +ℤ (z *ℤ pos 100)
-
-module _ {z : ℤ} (f : SFits w8 z) where
-  pub held_fits : SFits w32 (held z)
-  held_fits = fitting w32 held tt z f
-
-  pub hundreds_fit : SFits w32 (hundreds z)
-  hundreds_fit = fitting w32 hundreds tt z f
-
-  pub sum_fits : SFits w32 (sum z)
-  sum_fits = fitting w32 sum tt z f
-
-  pub weight_is : wide (sum z) ≡ weight_of z
-  weight_is =
-      to_z-of_z sum_fits
-      ∙ ap (λ (y : ℤ). pos 500 +ℤ y) (to_z-of_z hundreds_fit)
-      ∙ ap weight_of (to_z-of_z held_fits ∙ to_z-of_z f)
 
 -- ---- of a style
 

@@ -1,5 +1,4 @@
 -- Laws of making a mask.
-pub mod TagLaws
 pub mod VeilLaws
 pub mod GoingLaws
 pub mod MaskLaws
@@ -7,4 +6,3 @@ pub mod FindingLaws
 pub mod MatchLaws
 pub mod PairLaws
 pub mod ReadingLaws
-pub mod NumberLaws

@@ -1,9 +1,8 @@
 -- What is answered and left when a mask is made.
 use Rattle.rules.proofs.Basics.{◌≡◌, refl, sym, ap, ap₂, ◌∙◌, List, Bool, ℕ, leb, ◌≤◌, ◌<◌, arith, length, take, take_all, le-leb, lt-leb}
-use Rattle.rules.specs.declared.Answer.{Answer}
-use Rattle.rules.specs.declared.Answer.TheVariants.{Done, Refused}
+use Rattle.std.specs.Prelude.{Ok, Err}
 use Rattle.rules.specs.declared.Refusal.{Refusal}
-use Rattle.rules.specs.Result.{refused, accepted, said, ◌>>=◌}
+use Rattle.rules.specs.Result.{Answer, refused, accepted, said, ◌>>=◌}
 use Rattle.rules.specs.Good.{Bytes}
 use Rattle.rules.specs.Encode.{frag_fields, encode}
 use Rattle.rules.specs.Answers.{check_answer, left_page, written}
@@ -19,13 +18,14 @@ use Rattle.pairs.proofs.Pairs.{texts_length}
 use Rattle.masking.specs.Value.{flat_mask}
 
 module _ (s page : List ℕ) where
-  pub mask_refused : (a : Answer) {r : Refusal} → a ≡ Refused r → said a ≡ check_answer s → (said a, page) ≡ mask_outcome s page
+  pub mask_refused : (a x : Answer) {r y : Refusal} → a ≡ Err r → said a ≡ check_answer s → x ≡ Err y → y ≡ r → (said x, page) ≡ mask_outcome s page
   unfolding mask_outcome mask_text left_page ◌>>=◌
-  mask_refused a q e =
+  mask_refused a x q e w z =
       let R : RefusedSo s (said a) = refused_so s a q e in
-      ap (λ r. (r, page)) R.says ∙ sym (ap (λ x. left_page (x >>= (λ t. accepted (mask newlines s))) page) R.no_tree)
+      let same : x ≡ a = cc in
+      ap (λ (x : Answer). (said x, page)) same ∙ ap (λ r. (r, page)) R.says ∙ sym (ap (λ x. left_page (x >>= (λ t. accepted (mask newlines s))) page) R.no_tree)
 
-  module _ (b : Bytes s) (a : Answer) {n : ℕ} (q : a ≡ Done n) (e : said a ≡ check_answer s) where
+  module _ (b : Bytes s) (a : Answer) {n : ℕ} (q : a ≡ Ok n) (e : said a ≡ check_answer s) where
     abbrev A : AcceptedAs s
     A = accepted_as s a b q e
 

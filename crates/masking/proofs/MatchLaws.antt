@@ -1,5 +1,5 @@
 -- Where a file first differs from the mask of another: byte by byte, field by field, and to the end.
-use Rattle.rules.proofs.Basics.{◌≡◌, refl, sym, ap, subst, ◌∙◌, List, [], ◌∷◌, ◌++◌, append_assoc, Bool, true, false, inl, inr, ℕ, zero, suc, ◌+◌, ◌-◌, ◌<◌, ◌≤◌, min, arith, dec_lt, length, length-append, length-replicate, get_or, replicate, get_or-replicate}
+use Rattle.rules.proofs.Basics.{◌≡◌, refl, sym, ap, subst, ◌∙◌, List, [], ◌∷◌, ◌++◌, append_assoc, Bool, false, inl, inr, ℕ, zero, suc, ◌+◌, ◌-◌, ◌<◌, ◌≤◌, min, arith, dec_lt, length, length-append, length-replicate, get_or, replicate, get_or-replicate}
 use lib.ListN.{get_or-append}
 use lib.Seq.{get_or-append-add}
 use Rattle.rules.specs.Walk.{is_text}
@@ -14,15 +14,6 @@ use Rattle.pairs.proofs.Pairs.{Agree, agree_none, first_difference_is}
 use Rattle.pairs.specs.Flat.{next_place, flags_past, flags_from, flags}
 use Rattle.masking.specs.Off.{Off, OffField}
 use Rattle.masking.proofs.GoingLaws.{next_within, flags_on}
-
--- ---- a byte
-
-pub shown_text : {x : Bool} (b : ℕ) {r : ℕ} → x ≡ true → r ≡ mask_byte newlines true b → r ≡ mask_byte newlines x b
-shown_text b e m = rw e m
-
-pub shown_plain : (x : Bool) (b : ℕ) → x ≡ false → b ≡ mask_byte newlines x b
-unfolding mask_byte
-shown_plain x b e = rw e
 
 -- ---- byte by byte
 
@@ -50,8 +41,8 @@ module _ {o m : List ℕ} {text : Bool} {from to i : ℕ} (S : Same o m text fro
   pub off_here : (get_or m i 0 ≡ mask_byte newlines text (get_or o i 0) → ⊥) → Off o m text from to i
   off_here d = record { after = S.after; before = S.before; same = S.each; differs = λ l. d }
 
-  pub off_nowhere : to ≤ i → Off o m text from to i
-  off_nowhere h = record { after = S.after; before = S.before; same = S.each; differs = λ l. absurd (omega (arith, l, h)) }
+  pub off_nowhere : to ≤ i → Off o m text from to to
+  off_nowhere h = record { after = omega (arith, S.after, S.before); before = omega arith; same = λ k l g. S.each k l (omega (arith, g, h)); differs = λ l. absurd (omega (arith, l)) }
 
 -- ---- a field: its three bytes, and what stands behind them
 

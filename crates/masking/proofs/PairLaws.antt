@@ -1,10 +1,9 @@
 -- What is answered of a file and its mask: need by need.
 use Rattle.rules.proofs.Basics.{◌≡◌, refl, sym, ap, ◌∙◌, List, Bool, true, false, ◌&&◌, ℕ, ◌≤◌, eqb, length, ne_eqb, eq-eqb}
-use Rattle.rules.specs.declared.Answer.{Answer}
-use Rattle.rules.specs.declared.Answer.TheVariants.{Done, Refused}
+use Rattle.std.specs.Prelude.{Ok, Err}
 use Rattle.rules.specs.declared.Refusal.{Refusal}
 use Rattle.rules.specs.Result as rules
-use Rattle.rules.specs.Result.{Result, refused, accepted, refusal, need, ◌>>=◌, ◌>>◌}
+use Rattle.rules.specs.Result.{Result, Answer, refused, accepted, refusal, need, ◌>>=◌, ◌>>◌}
 use Rattle.rules.specs.Good.{Bytes}
 use Rattle.rules.specs.Answers.{tree, check_answer}
 use Rattle.rules.specs.Mask.{newlines, mask_bytes, mask}
@@ -17,8 +16,10 @@ use Rattle.pairs.specs.Flat.{flags, length_at_place, found_length}
 use Rattle.pairs.proofs.OfFiles.{flags_of_file}
 use Rattle.pairs.proofs.Masks.{tree_passes}
 use Rattle.pairs.proofs.Pairs.{text_length}
-use Rattle.masking.specs.declared.finding.Found.{Found}
-use Rattle.masking.specs.declared.finding.Found.TheVariants.{Text, Nothing}
+use Rattle.std.specs.Prelude.{Option as Found, Some, None, ok_or}
+use Rattle.pairs.specs.declared.Refusal as Pair
+use Rattle.pairs.specs.declared.Refusal.TheVariants.{File, NoText}
+use Rattle.pairs.specs.Pair as pairs
 use Rattle.masking.specs.Finding.{found}
 use Rattle.masking.specs.Answered.{flat_answer, second_answer}
 
@@ -28,13 +29,10 @@ and_false false = refl
 
 -- ---- 13
 
-pub text_found : {f : Found} {n : ℕ} (o : List ℕ) (p : ℕ) → f ≡ Text n → found f ≡ length_at_place o p → accepted n ≡ found_length p (length_at_place o p)
-unfolding found found_length
-text_found o p w e = rw (sym e, w)
-
-pub none_found : {f : Found} (o : List ℕ) (p : ℕ) → f ≡ Nothing → found f ≡ length_at_place o p → refused 13 p ≡ found_length p (length_at_place o p)
-unfolding found found_length
-none_found o p w e = rw (sym e, w)
+pub text_or_13 : (f : Found ℕ) {x : pairs.Answer} (o : List ℕ) (p : ℕ) → found f ≡ length_at_place o p → x ≡ ok_or f (NoText p) → pairs.said x ≡ found_length p (length_at_place o p)
+unfolding pairs.said pairs.refusal found found_length
+text_or_13 None o p w e = rw (sym w, e)
+text_or_13 (Some n) o p w e = rw (sym w, e)
 
 -- ---- 12
 
@@ -67,27 +65,31 @@ module _ (o m : List ℕ) (p : ℕ) {d : ℕ} (e : d ≡ first_difference m (mas
 
 -- ---- the files' own refusals
 
-pub second_refused : (o m : List ℕ) (p : ℕ) (a : Answer) {r : Refusal} {x : Result ℕ} → a ≡ Refused r → rules.said a ≡ check_answer m → x ≡ refusal r → x ≡ second_answer o m p
+own : {x : pairs.Answer} {y : Pair.Refusal} {r : Refusal} → x ≡ Err y → y ≡ File r → pairs.said x ≡ refusal r
+unfolding pairs.said pairs.refusal
+own e f = rw (e, f)
+
+pub second_refused : (o m : List ℕ) (p : ℕ) (a : Answer) {r : Refusal} {x : pairs.Answer} {y : Pair.Refusal} → a ≡ Err r → rules.said a ≡ check_answer m → x ≡ Err y → y ≡ File r → pairs.said x ≡ second_answer o m p
 unfolding second_answer ◌>>=◌ rules.said
-second_refused o m p a {r} {x} q e w =
+second_refused o m p a {r} q e w f =
     let R : RefusedSo m (rules.said a) = refused_so m a q e in
     let h : refusal r ≡ refused R.number R.place = sym (ap rules.said q) ∙ R.says in
-    w ∙ h ∙ rw R.no_tree
+    own w f ∙ h ∙ rw R.no_tree
 
-pub second_passed : (o m : List ℕ) (p : ℕ) (a : Answer) {n : ℕ} {x : Result ℕ} → Bytes m → a ≡ Done n → rules.said a ≡ check_answer m → x ≡ flat_answer o m p → x ≡ second_answer o m p
+pub second_passed : (o m : List ℕ) (p : ℕ) (a : Answer) {n : ℕ} {x : Result ℕ} → Bytes m → a ≡ Ok n → rules.said a ≡ check_answer m → x ≡ flat_answer o m p → x ≡ second_answer o m p
 unfolding second_answer ◌>>=◌
 second_passed o m p a b q e w = let A : AcceptedAs m = accepted_as m a b q e in w ∙ rw A.its_tree
 
-pub first_refused : (o m : List ℕ) (p : ℕ) (a : Answer) {r : Refusal} {x : Result ℕ} → a ≡ Refused r → rules.said a ≡ check_answer o → x ≡ refusal r → x ≡ pair_answer o m p
+pub first_refused : (o m : List ℕ) (p : ℕ) (a : Answer) {r : Refusal} {x : pairs.Answer} {y : Pair.Refusal} → a ≡ Err r → rules.said a ≡ check_answer o → x ≡ Err y → y ≡ File r → pairs.said x ≡ pair_answer o m p
 unfolding pair_answer pair_text length_of ◌>>=◌ rules.said
-first_refused o m p a {r} {x} q e w =
+first_refused o m p a {r} q e w f =
     let R : RefusedSo o (rules.said a) = refused_so o a q e in
     let h : refusal r ≡ refused R.number R.place = sym (ap rules.said q) ∙ R.says in
-    w ∙ h ∙ rw R.no_tree
+    own w f ∙ h ∙ rw R.no_tree
 
 -- ---- by the fields one after the other
 
-module _ (o m : List ℕ) (p : ℕ) (a : Answer) {n : ℕ} (b : Bytes o) (q : a ≡ Done n) (e : rules.said a ≡ check_answer o) where
+module _ (o m : List ℕ) (p : ℕ) (a : Answer) {n : ℕ} (b : Bytes o) (q : a ≡ Ok n) (e : rules.said a ≡ check_answer o) where
   abbrev A : AcceptedAs o
   A = accepted_as o a b q e
 

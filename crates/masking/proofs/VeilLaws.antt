@@ -1,5 +1,5 @@
 -- A text's mask written byte by byte, and at once to a page.
-use Rattle.rules.proofs.Basics.{◌≡◌, refl, sym, ◌∙◌, List, [], ◌∷◌, ◌++◌, map, true, ℕ, zero, suc, ◌+◌, ◌-◌, ◌<◌, ◌≤◌, arith, length, length-map, get_or, set, take, drop}
+use Rattle.rules.proofs.Basics.{◌≡◌, refl, sym, subst, ◌∙◌, List, [], ◌∷◌, ◌++◌, map, true, ℕ, zero, suc, ◌+◌, ◌-◌, ◌<◌, ◌≤◌, arith, length, length-map, get_or, set, take, drop, take-append-drop}
 use Rattle.rules.specs.Mask.{newlines, mask_byte}
 use Rattle.masking.specs.Value.{veiled}
 use Rattle.writing.specs.Written.{Written, last}
@@ -34,16 +34,11 @@ as_long C = C.copied.as_long
 
 -- ---- to a page
 
-pub no_text : (page v : List ℕ) (at : ℕ) {n : ℕ} → n ≡ length v → n ≡ 0 → Written page at (veiled v) page at
-unfolding veiled
-no_text page [] at q e = nothing
-no_text page (b ∷ v) at q e = absurd (omega arith)
-
-pub put_veil : (page v : List ℕ) (at : ℕ) {ys : List ℕ} → length page ≤ last → (length v ≡ 0 → ⊥) → at + length v ≤ length page → ys ≡ veiled v
+pub put_veil : (page v : List ℕ) (at : ℕ) {ys : List ℕ} → length page ≤ last → at + length v ≤ length page → ys ≡ veiled v
     → Written page at (veiled v) (take at page ++ (ys ++ drop ((at + length v) - at) (drop at page))) (at + length v)
 unfolding veiled
-put_veil page v at l z h e = all_fits page at (map veil v) (length-map v veil) l (omega (arith, above (length v) z)) (omega arith) e
+put_veil page [] at {ys} l h e = let q : at + 0 ≡ at = omega arith in rw (e, no_page) (subst (Written page at [] page) (sym q) nothing)
   where
-    above : (n : ℕ) → (n ≡ 0 → ⊥) → 0 < n
-    above zero f = absurd (f refl)
-    above (suc n) f = omega arith
+    no_page : take at page ++ drop ((at + 0) - at) (drop at page) ≡ page
+    no_page = let none : (at + 0) - at ≡ 0 = omega arith in rw none (take-append-drop at page)
+put_veil page (b ∷ v) at l h e = all_fits page at (map veil (b ∷ v)) (length-map (b ∷ v) veil) l (omega arith) (omega arith) e

@@ -1,9 +1,7 @@
 -- What the search for a text says.
 use Rattle.std.proofs.Math.Option.{Option, none, some}
-use Rattle.std.specs.Prelude.{ℕ}
-use Rattle.masking.specs.declared.finding.Found.{Found}
-use Rattle.masking.specs.declared.finding.Found.TheVariants.{Text, Nothing}
+use Rattle.std.specs.Prelude.{ℕ, Option as Found, Some, None}
 
-unfoldable pub found : Found → Option ℕ
-found (Text n) = some n
-found Nothing = none
+unfoldable pub found : Found ℕ → Option ℕ
+found (Some n) = some n
+found None = none

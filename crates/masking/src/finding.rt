@@ -7,37 +7,28 @@ ghost use Rattle.masking.specs.Finding.{found};
 use crate::tags::{is_text, next_place};
 use fields::{Field, field_in};
 
-// A text's length, or that none stands there.
-#[derive(Drop)]
-pub enum Found {
-    Text(usize),
-    Nothing,
-}
-
 // Whether it is a text, and stands at the place that is asked for.
 fn is_asked(tag: u8, at: usize, place: usize) -> bool
     ensures { result ≡ (is_text tag && eqb at place) }
 {
-    if is_text(tag) {
-        return at == place;
-    }
-    false
+    is_text(tag) && at == place
 }
 
-// Field by field, up to the one that is asked for.
-pub fn find_text(file: &[u8], place: usize) -> Found
+// The text's length, or that none stands there: field by field, up to the one that is asked for.
+pub fn find_text(file: &[u8], place: usize) -> Option<usize>
     ensures { found result ≡ length_at_place file.now place }
 {
     let mut at = 0;
+    // No `for`: the next field stands where this one says.
     while at < file.len() {
         let f = field_in(file, at, file.len());
         let Field::Whole { tag, from, to } = f else {
-            return Found::Nothing;
+            return None;
         };
         if is_asked(tag, at, place) {
-            return Found::Text(to - from);
+            return Some(to - from);
         }
         at = next_place(tag, from, to);
     }
-    Found::Nothing
+    None
 }

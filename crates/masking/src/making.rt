@@ -7,34 +7,32 @@ ghost use Rattle.masking.specs.Value.{veiled, mask_value, flat_mask};
 
 use crate::tags::{is_text, masked, next_place};
 use fields::{Field, field_in};
-use rules::{Answer, Refusal};
+use rules::Refusal;
 use verify::walk::check;
 use writing::put_bytes;
 
 // The mask of a text over a slice of its length. No byte is tested against the slice's end, so that the compiler takes many at once.
+#[tactic(auto, using(crate::proofs::VeilLaws::none_veiled, crate::proofs::VeilLaws::all_veiled, crate::proofs::VeilLaws::as_long))]
 fn veil(to: &mut [u8], s: &[u8])
     requires { length to.old ≡ length s.now }
     ensures { to.new ≡ veiled s.now }
 {
-    let mut i = 0;
-    while i < s.len() {
+    for i in 0..s.len() {
         to[i] = masked(s[i]);
-        i += 1;
     }
 }
 
+#[tactic(auto, using(crate::proofs::VeilLaws::put_veil))]
 fn put_masked(page: &mut [u8], at: usize, v: &[u8]) -> usize
     requires { at + length v.now ≤ length page.old }
     ensures { Written page.old at (veiled v.now) page.new result }
 {
-    if v.len() == 0 {
-        return at;
-    }
     veil(&mut page[at..at + v.len()], v);
     at + v.len()
 }
 
 // A value as it stands in the mask.
+#[tactic(auto, unfolding(crate::specs::Value::mask_value))]
 fn put_value(page: &mut [u8], at: usize, text: bool, v: &[u8]) -> usize
     requires { at + length v.now ≤ length page.old }
     ensures { Written page.old at (mask_value text v.now) page.new result }
@@ -46,6 +44,7 @@ fn put_value(page: &mut [u8], at: usize, text: bool, v: &[u8]) -> usize
 }
 
 // A field's three bytes, and what stands behind them up to the next field.
+#[tactic(auto, using(crate::proofs::GoingLaws::value_fits))]
 fn put_field(page: &mut [u8], file: &[u8], at: usize, next: usize, text: bool) -> usize
     requires { (at + 3 ≤ next) × (next ≤ length file.now) × (length file.now ≤ length page.old) }
     ensures { Written page.old at (take 3 (drop at file.now) ++ mask_value text (take (next - (at + 3)) (drop (at + 3) file.now))) page.new result }
@@ -61,6 +60,7 @@ fn put_mask(page: &mut [u8], file: &[u8]) -> usize
     ensures { Written page.old 0 (flat_mask file.now) page.new result }
 {
     let mut at = 0;
+    // No `for`: the next field stands where this one says.
     while at < file.len() {
         let f = field_in(file, at, file.len());
         let Field::Whole { tag, from, to } = f else {
@@ -73,16 +73,13 @@ fn put_mask(page: &mut [u8], file: &[u8]) -> usize
 }
 
 // The mask of a file: accepted with its length, which is the file's; a buffer that is too short is refused with the bytes needed. A refusal changes no byte.
-pub fn mask_into(file: &[u8], page: &mut [u8]) -> Answer
+pub fn mask_into(file: &[u8], page: &mut [u8]) -> Result<usize, Refusal>
     ensures { (said result, page.new) ≡ mask_outcome file.now page.old }
 {
-    let a = check(file);
-    let Answer::Done(n) = a else {
-        return a;
-    };
+    check(file)?;
     if page.len() < file.len() {
-        return Answer::Refused(Refusal::PageTooShort(file.len()));
+        return Err(Refusal::PageTooShort(file.len()));
     }
     put_mask(page, file);
-    Answer::Done(file.len())
+    Ok(file.len())
 }

@@ -3,14 +3,12 @@ ghost use Rattle.std.specs.Prelude.{◌≡◌};
 ghost use Rattle.pairs.specs.Pair.{given_text};
 
 use crate::pair::check_pair;
-use pairs::Answer;
 
 // A part of the original or of its mask, and no copy: the value of the 17 or 7 at the place; empty where the pair's check refuses.
 pub fn text_part<'a>(original: &'a [u8], mask: &'a [u8], place: usize, names: bool) -> &'a [u8]
     ensures { result.now ≡ given_text original.now mask.now place names }
 {
-    let a = check_pair(original, mask, place);
-    let Answer::Length(n) = a else {
+    let Ok(n) = check_pair(original, mask, place) else {
         return &original[0..0];
     };
     let from = place + 3;

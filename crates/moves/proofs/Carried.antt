@@ -36,10 +36,10 @@ passes (b or_refuse m ∷ cs) n place = ap (λ r. need b m place >> r) (passes c
 
 -- with a header and a piece behind, that is the state t
 pub record Ends (p : Plan) (st : Style) (v c : List ℕ) (q : ℕ) (t : Open) : Type 0 where
-  pub bytes_end : (c ++ opened_header p.opens p.code q) ++ piece_bytes p.behind st v ≡ shown t
+  pub bytes_end : (c ++ opened_header p.opens q) ++ piece_bytes p.behind st v ≡ shown t
   pub top_ends : opened_top p.opens (length c) q ≡ top_of t
 
-pub ends : {p : Plan} {st : Style} {v c : List ℕ} {q : ℕ} {t : Open} → (c ++ opened_header p.opens p.code q) ++ piece_bytes p.behind st v ≡ shown t
+pub ends : {p : Plan} {st : Style} {v c : List ℕ} {q : ℕ} {t : Open} → (c ++ opened_header p.opens q) ++ piece_bytes p.behind st v ≡ shown t
     → opened_top p.opens (length c) q ≡ top_of t → Ends p st v c q t
 ends e f = record { bytes_end = e; top_ends = f }
 

@@ -1,6 +1,6 @@
 -- THE PROMISES OF A WRITER, as theorems over its contract: what calls accepted in a row and finished leave, what an accepted file is read off as, what a
 -- refused call leaves.
-use Rattle.rules.proofs.Basics.{◌≡◌, sym, ap, ◌∙◌, subst⁻¹, List, [], ◌++◌, ℕ, ◌≤◌, arith, length, take, drop, take_at}
+use Rattle.rules.proofs.Basics.{◌≡◌, refl, sym, ap, ◌∙◌, subst⁻¹, List, [], ◌∷◌, ◌++◌, ℕ, ◌≤◌, arith, length, take, drop, take_at, get_or}
 use Rattle.rules.specs.Result.{Result, refused, accepted, ◌>>=◌}
 use Rattle.rules.specs.Tree.{Run, Frag, stop, none_left}
 use Rattle.rules.specs.Encode.{encode, frag_fields, encode_fields}
@@ -19,13 +19,14 @@ use Rattle.scripts.proofs.Ways.{finish_inv}
 use Rattle.scripts.proofs.Told.{finished_told, any_room}
 use Rattle.scripts.proofs.Accepted.{finished_accepted}
 use Rattle.scripts.proofs.Back.{steps_back, read_off_formed}
-use Rattle.moves.specs.declared.Answer.{Answer}
-use Rattle.moves.specs.declared.Answer.TheVariants.{Done, Refused}
+use Rattle.std.specs.Prelude.{Result as Answer, Ok, Err}
+use Rattle.moves.specs.declared.Refusal.{Refusal}
+use Rattle.moves.specs.declared.Refusal.TheVariants.{TooLong, TooDeep, NotUtf8, BadStyle, QuoteInAnchor, BufferTooShort, NotAllowed}
 use Rattle.moves.specs.declared.Moved.{Moved}
 use Rattle.moves.specs.declared.Style.{Style}
 use Rattle.moves.specs.declared.Op.{Op}
 use Rattle.moves.specs.declared.Op.TheVariants as op
-use Rattle.moves.specs.Stepped.{Written, State, answered, left, stepped, said, Says}
+use Rattle.moves.specs.Stepped.{Written, State, answered, left, stepped, refusal, said, Says}
 use Rattle.moves.specs.Asked.{Call, script, Held, fresh, calls}
 use Rattle.moves.specs.Calls.{AllSized, AllInBytes, calls_of}
 use Rattle.moves.proofs.Codes.{blocks}
@@ -132,12 +133,28 @@ refused_changes_nothing o st v b at top n p e = refused_left b at top (answered 
 
 -- ---- THE CONTRACT SETTLES ALL: structs and bytes that say one state are the same
 
-said_same : (a a' : Answer) → said a ≡ said a' → a ≡ a'
-unfolding said
-said_same (Done n) (Done m) e = let q : n ≡ m = cc in ap Done q
-said_same (Done n) (Refused m p) e = no_path (cc)
-said_same (Refused n p) (Done m) e = no_path (cc)
-said_same (Refused n p) (Refused m q) e = cc
+-- the answer that a number and a place say; other numbers are none of a step's
+refusal_of : (n p : ℕ) → Refusal
+refusal_of n p =
+    get_or (NotAllowed p ∷ TooLong p ∷ NotAllowed p ∷ NotAllowed p ∷ NotAllowed p ∷ NotAllowed p ∷ TooDeep p ∷ NotUtf8 p ∷ BadStyle p ∷ QuoteInAnchor p ∷ BufferTooShort p ∷ []) n (NotAllowed p)
+
+answer_of : Result ℕ → Answer ℕ Refusal
+answer_of (refused n p) = Err (refusal_of n p)
+answer_of (accepted n) = Ok n
+
+answer_back : (a : Answer ℕ Refusal) → answer_of (said a) ≡ a
+unfolding said refusal answer_of refusal_of
+answer_back (Ok n) = refl
+answer_back (Err (TooLong p)) = refl
+answer_back (Err (TooDeep p)) = refl
+answer_back (Err (NotUtf8 p)) = refl
+answer_back (Err (BadStyle p)) = refl
+answer_back (Err (QuoteInAnchor p)) = refl
+answer_back (Err (BufferTooShort p)) = refl
+answer_back (Err (NotAllowed p)) = refl
+
+said_same : (a a' : Answer ℕ Refusal) → said a ≡ said a' → a ≡ a'
+said_same a a' e = sym (answer_back a) ∙ ap answer_of e ∙ answer_back a'
 
 pub says_unique : {m m' : Moved} {b b' : List ℕ} {s : State} → Says m b s → Says m' b' s → (m ≡ m') × (b ≡ b')
 says_unique {m} {m'} k l =

@@ -1,5 +1,5 @@
 -- What each step does where it is allowed: the table of steps by what is open. Kinds are the numbers of `Shown.opened_number`, and 8 the root.
-use Rattle.std.specs.Prelude.{List, [], ◌∷◌, ◌++◌, Bool, true, false, ◌&&◌, ◌||◌, not, ℕ, zero, suc, ◌+◌, ◌*◌, ◌/◌, ◌%◌, leb, ltb, eqb, if◌then◌else◌}
+use Rattle.std.specs.Prelude.{List, [], ◌∷◌, ◌++◌, Bool, true, false, ◌&&◌, ◌||◌, not, Option, Some, None, ℕ, zero, suc, ◌+◌, ◌*◌, ◌/◌, ◌%◌, leb, ltb, eqb, if◌then◌else◌}
 use Rattle.rules.specs.Limits.{most_bytes, most_blocks}
 use Rattle.rules.specs.Result.{Check, ◌or_refuse◌}
 use Rattle.rules.specs.Walk.{text_content, anchor_content}
@@ -28,18 +28,18 @@ depth_in c = if eqb c root_code then 0 else (c % 32 + 1)
 
 -- fields closed between two pieces
 unfoldable pub shuts : Bool → Piece → (closes : ℕ) → Piece → Plan
-shuts a b n p = record { allowed = a; before = b; closes = n; opens = false; code = 0; too_deep = false; behind = p }
+shuts a b n p = record { allowed = a; before = b; closes = n; opens = None; too_deep = false; behind = p }
 
 unfoldable pub puts : Bool → Piece → Plan
 puts a b = shuts a b 0 piece.Nothing
 
 -- and a field opened by its code
 unfoldable pub opens : Bool → Piece → (closes code : ℕ) → Piece → Plan
-opens a b n c p = record { allowed = a; before = b; closes = n; opens = true; code = c; too_deep = false; behind = p }
+opens a b n c p = record { allowed = a; before = b; closes = n; opens = Some c; too_deep = false; behind = p }
 
 -- a block of a kind, whose depth counts
 unfoldable pub begins : Bool → Piece → (kind depth : ℕ) → Plan
-begins a b k d = record { allowed = a; before = b; closes = 0; opens = true; code = 32 * k + d; too_deep = leb most_blocks d; behind = piece.Nothing }
+begins a b k d = record { allowed = a; before = b; closes = 0; opens = Some (32 * k + d); too_deep = leb most_blocks d; behind = piece.Nothing }
 
 unfoldable pub next_plan : (kind around : ℕ) → Plan
 next_plan k d =
@@ -129,17 +129,17 @@ piece_checks piece.LastComma st v = []
 -- ---- plans
 
 -- a header with a code, or none
-unfoldable pub opened_header : Bool → (code top : ℕ) → List ℕ
-opened_header true c top = open_header c top
-opened_header false c top = []
+unfoldable pub opened_header : (opens : Option ℕ) → (top : ℕ) → List ℕ
+opened_header (Some c) top = open_header c top
+opened_header None top = []
 
-unfoldable pub opened_top : Bool → (at top : ℕ) → ℕ
-opened_top true at top = suc at
-opened_top false at top = top
+unfoldable pub opened_top : (opens : Option ℕ) → (at top : ℕ) → ℕ
+opened_top (Some c) at top = suc at
+opened_top None at top = top
 
-unfoldable pub header_size : Bool → ℕ
-header_size true = 3
-header_size false = 0
+unfoldable pub header_size : (opens : Option ℕ) → ℕ
+header_size (Some c) = 3
+header_size None = 0
 
 unfoldable pub plan_size : Plan → Style → (n : ℕ) → ℕ
 plan_size p st n = piece_size p.before st n + header_size p.opens + piece_size p.behind st n

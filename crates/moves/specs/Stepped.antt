@@ -1,9 +1,9 @@
 -- A step of the writer on the lent bytes, its position and where the innermost open field is: what is answered and what is left, for every state.
-use Rattle.std.specs.Prelude.{◌≡◌, List, ◌++◌, true, ◌&&◌, ℕ, ◌+◌, ◌≤◌, leb, ltb, length, take, drop}
+use Rattle.std.specs.Prelude.{◌≡◌, List, ◌++◌, true, ◌&&◌, ℕ, ◌+◌, ◌≤◌, leb, ltb, length, take, drop, Result as Answer, Ok, Err}
 use Rattle.rules.specs.Limits.{most_bytes}
 use Rattle.rules.specs.Result.{Result, refused, accepted, ◌>>◌, need, sound}
-use Rattle.moves.specs.declared.Answer.{Answer}
-use Rattle.moves.specs.declared.Answer.TheVariants.{Done, Refused}
+use Rattle.moves.specs.declared.Refusal.{Refusal}
+use Rattle.moves.specs.declared.Refusal.TheVariants.{TooLong, TooDeep, NotUtf8, BadStyle, QuoteInAnchor, BufferTooShort, NotAllowed}
 use Rattle.moves.specs.declared.Moved.{Moved}
 use Rattle.moves.specs.declared.Style.{Style}
 use Rattle.moves.specs.declared.Op.{Op}
@@ -25,7 +25,7 @@ carried_out p st v x =
     let c : List ℕ = closed_bytes w (length w) x.top p.closes in
     let t : ℕ = closed_top w (length w) x.top p.closes in
     record {
-      bytes = (c ++ opened_header p.opens p.code t) ++ piece_bytes p.behind st v;
+      bytes = (c ++ opened_header p.opens t) ++ piece_bytes p.behind st v;
       top = opened_top p.opens (length c) t;
     }
 
@@ -74,9 +74,25 @@ stepped op st v b at top = left b at top (answered op st v b at top)
 
 -- ---- what the code says
 
-unfoldable pub said : Answer → Result ℕ
-said (Done n) = accepted n
-said (Refused n p) = refused n p
+-- a refusal: its number, and its place
+unfoldable pub refusal : {A : Type 0} → Refusal → Result A
+refusal (TooLong p) = refused 1 p
+refusal (TooDeep p) = refused 6 p
+refusal (NotUtf8 p) = refused 7 p
+refusal (BadStyle p) = refused 8 p
+refusal (QuoteInAnchor p) = refused 9 p
+refusal (BufferTooShort needed) = refused 10 needed
+refusal (NotAllowed p) = refused 11 p
+
+-- a check: nothing, or the refusal
+unfoldable pub checked : {A : Type 0} → Answer A Refusal → Result (Unit {0})
+checked (Ok a) = accepted tt
+checked (Err r) = refusal r
+
+-- an answer
+unfoldable pub said : Answer ℕ Refusal → Result ℕ
+said (Ok n) = accepted n
+said (Err r) = refusal r
 
 -- the code's struct and the bytes it leaves say a state
 pub record Says (m : Moved) (b : List ℕ) (s : State) : Type 0 where

@@ -3,7 +3,7 @@
 #![tactic(auto)]
 
 // The steps. Those that put a text, a name or a style get it beside.
-#[derive(Clone, Copy)]
+#[derive(Debug, Clone, Copy, PartialEq, Eq)]
 pub enum Op {
     Text,
     Space,
@@ -30,7 +30,7 @@ pub enum Op {
 }
 
 // What a step can put.
-#[derive(Clone, Copy)]
+#[derive(Debug, Clone, Copy, PartialEq, Eq)]
 pub enum Piece {
     Nothing,
     // a text's node, of the style and the text given
@@ -46,21 +46,21 @@ pub enum Piece {
     LastComma,
 }
 
-// In this order: a piece, so many fields closed, a field opened or not, by its code, another piece. `too_deep` where that field is a block inside 32 others.
-#[derive(Clone, Copy)]
+// In this order: a piece, so many fields closed, a field opened by its code or none, another piece. `too_deep` where that field is a block inside 32 others.
+// `allowed` is a field and no `Option` around: it is the first of a step's checks, with whether the fields can be closed (`planned` of specs/Stepped), and the others follow.
+#[derive(Debug, Clone, Copy, PartialEq, Eq)]
 pub struct Plan {
     pub allowed: bool,
     pub before: Piece,
     pub closes: usize,
-    pub opens: bool,
-    pub code: u8,
+    pub opens: Option<u8>,
     pub too_deep: bool,
     pub behind: Piece,
 }
 
 // Where `styled` is false there is no style. A value counts where its flag is true. An opacity is its float's bits, high byte first; thickness and size are
-// signed bytes, given as the byte that stands in the file.
-#[derive(Clone, Copy)]
+// signed bytes, given as the byte that stands in the file. Document 01's form, a flag beside its value, and how C gives it in 18 bytes.
+#[derive(Debug, Clone, Copy, PartialEq, Eq)]
 pub struct Style {
     pub styled: bool,
     pub has_colour: bool,
@@ -77,17 +77,22 @@ pub struct Style {
     pub underline: bool,
 }
 
-// A refusal's number and place, or the write position after the step; of the last step, the file's length.
-#[derive(Drop)]
-pub enum Answer {
-    Done(usize),
-    Refused(usize, usize),
+// Why a step is refused: a case for each of its numbers, 1 and 6 to 11 (docs/FORMAT, "Refusals of a step"), with the place: how far the file is written, or the bytes that are needed.
+#[derive(Debug, Clone, Copy, PartialEq, Eq)]
+pub enum Refusal {
+    TooLong(usize),
+    TooDeep(usize),
+    NotUtf8(usize),
+    BadStyle(usize),
+    QuoteInAnchor(usize),
+    BufferTooShort(usize),
+    NotAllowed(usize),
 }
 
-// The numbers of a writer after a step, and the step's answer.
-#[derive(Drop)]
+// The numbers of a writer after a step, and the step's answer: the write position after it (of the last step, the file's length), or the refusal.
+#[derive(Debug, Clone, Copy, PartialEq, Eq)]
 pub struct Moved {
     pub at: usize,
     pub top: usize,
-    pub answer: Answer,
+    pub answer: Result<usize, Refusal>,
 }

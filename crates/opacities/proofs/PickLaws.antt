@@ -1,8 +1,7 @@
--- Which whole number is picked, by the facts that the code tests; the sizes of its numbers.
-use Rattle.rules.proofs.Basics.{◌≡◌, refl, sym, Bool, true, false, false≢true, ◌⊎◌, inl, inr, ⊎_elim, none, some, ℕ, suc, ◌+◌, ◌-◌, ◌*◌, ◌/◌, ◌^◌, ◌≤◌, ◌<◌, mod-lt, le_of_lt, le_trans, arith, le-leb, lt-ltb, le-ltb}
-use native.Mathlib.Nat.{mul-le-mul, div-le_self}
+-- Which whole number is picked, by the facts that the code tests.
+use Rattle.rules.proofs.Basics.{◌≡◌, refl, sym, Bool, true, false, false≢true, ◌⊎◌, inl, inr, ⊎_elim, none, some, ℕ, suc, ◌-◌, ◌*◌, ◌/◌, ◌^◌, ◌≤◌, ◌<◌, arith, le-leb, lt-ltb, le-ltb}
 use Rattle.rules.specs.Search.{choice}
-use Rattle.opacities.specs.Picked.{rest, lower_reads, upper_reads, picked, Sized, Reached}
+use Rattle.opacities.specs.Picked.{rest, lower_reads, upper_reads, picked, Reached}
 
 -- ---- the choice
 
@@ -54,21 +53,3 @@ module _ (m u d t : ℕ) where
 pub picks_one : (m u d : ℕ) → Reached m u d → none ≡ picked m u d (10 ^ 10) → ⊥
 unfolding picked
 picks_one m u d R h = choose_some _ _ _ (m * 10 ^ 10 / u) (sym h) (⊎_elim (λ l. inl (le-leb _ _ l)) (λ l. inr (le-leb _ _ l)) R.reads)
-
--- ---- sizes
-
-module _ {m u d t : ℕ} (S : Sized m u d t) where
-  product_le : m * t ≤ 2 ^ 24 * 10 ^ 10
-  product_le = mul-le-mul (le_of_lt S.m_lt) S.t_le
-
-  pub product_fits : m * t < 2 ^ 64
-  product_fits = omega (arith, product_le)
-
-  pub next_fits : m * t / u + 1 < 2 ^ 64
-  next_fits = omega (arith, product_le, div-le_self (m * t) u)
-
-  pub rest_lt : rest m u t < u
-  rest_lt = mod-lt (m * t) S.u_pos
-
-  pub lower_fits : d * rest m u t ≤ 4 * 2 ^ 33
-  lower_fits = mul-le-mul S.d_le (le_trans (le_of_lt rest_lt) S.u_le)

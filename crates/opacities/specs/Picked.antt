@@ -1,13 +1,13 @@
 -- The whole number at p places, in the code's numbers: the value is m / u, and t = 10 ^ p.
 use Rattle.std.specs.Prelude.{Bool, ◌⊎◌, ℕ, ◌+◌, ◌-◌, ◌*◌, ◌/◌, ◌%◌, ◌^◌, ◌≤◌, ◌<◌, leb, ltb}
+use Rattle.std.specs.Prelude.{Option as Found, Some, None}
 use Rattle.std.proofs.Math.Option.{Option, none, some}
 use Rattle.rules.specs.Search.{choice}
-use Rattle.opacities.specs.declared.Found.{Found}
-use Rattle.opacities.specs.declared.Found.TheVariants.{At, Nothing}
 
-unfoldable pub said : Found → Option ℕ
-said (At n) = some n
-said Nothing = none
+-- what was found, in the rules' words
+unfoldable pub said : Found ℕ → Option ℕ
+said (Some n) = some n
+said None = none
 
 -- how far the value times t lies above the whole number below it, in units of 1 / u
 abbrev pub rest : (m u t : ℕ) → ℕ

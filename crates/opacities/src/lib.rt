@@ -19,16 +19,10 @@ const LEADING: u32 = 0x80_0000;
 // The field at which the value is the significand itself: with each field below that it halves.
 const WHOLE: u32 = 150;
 
-#[derive(Drop)]
-enum Found {
-    At(u64),
-    Nothing,
-}
-
 // The value is m / u, and t is a power of ten. Of the two whole numbers next to the value times t: the one that over t reads back, and of both the
 // closer. What lies up to half of 1 / u off reads back, and below a power of two up to a quarter: there d is 4, and else 2. That far off counts
 // where m is even.
-fn at_places(m: u64, u: u64, d: u64, t: u64) -> Found
+fn at_places(m: u64, u: u64, d: u64, t: u64) -> Option<u64>
     requires { Sized m u d t }
     ensures { said result ≡ picked m u d t }
 {
@@ -38,22 +32,17 @@ fn at_places(m: u64, u: u64, d: u64, t: u64) -> Found
     let odd = m % 2;
     let lower = d * r + odd <= t;
     let upper = 2 * (u - r) + odd <= t;
-    if upper {
-        if lower {
-            // a tie goes to the larger
-            if r < u - r {
-                return Found::At(n);
-            }
-        }
-        return Found::At(n + 1);
+    // of two, the closer; a tie goes to the larger
+    if lower && (!upper || r < u - r) {
+        Some(n)
+    } else if upper {
+        Some(n + 1)
+    } else {
+        None
     }
-    if lower {
-        return Found::At(n);
-    }
-    Found::Nothing
 }
 
-// The fewest places that have one. The requirement that ten do bounds the loop.
+// The fewest places that have one. The requirement that ten do bounds the loop; behind a `for` there would be an end that is never reached.
 fn search(m: u64, u: u64, d: u64) -> Decimal
     requires sized { Sized m u d 1 }
     requires reached { Reached m u d }
@@ -62,15 +51,14 @@ fn search(m: u64, u: u64, d: u64) -> Decimal
     let mut t: u64 = 1;
     let mut places: u64 = 0;
     loop {
-        let found = at_places(m, u, d, t);
-        if let Found::At(whole) = found {
+        if let Some(whole) = at_places(m, u, d, t) {
             return Decimal {
                 negative: false,
                 whole,
                 places,
             };
         }
-        t = t * 10;
+        t *= 10;
         places += 1;
     }
 }

@@ -16,19 +16,19 @@ unfoldable pub with_rest : (ℕ → List ℕ → Ops) → ℕ → Ops × ℕ →
 with_rest f k done s = done.0 ++ each f k done.1 s
 
 -- the loop has come to `at` in s, which stands at `base`: the operations of the fields before it have run
-pub record Going (f : ℕ → List ℕ → Ops) (base from : ℕ) (s : List ℕ) (p₀ : Pen) (page₀ : List ℕ) (at : ℕ) (p : Pen) (page : List ℕ) : Type 0 where
+pub record Going (f : ℕ → List ℕ → Ops) (base from : ℕ) (s : List ℕ) (p₀ : Pen) (at : ℕ) (p : Pen) : Type 0 where
   pub done : Ops
   pub left : Left (with_rest f) (each_from f base from s) s at (done, base + at)
-  pub rendered : Rendered done p₀ page₀ p page
+  pub rendered : Rendered done p₀ p
 
-module _ {f : ℕ → List ℕ → Ops} {base from : ℕ} {s : List ℕ} {p₀ : Pen} {page₀ : List ℕ} where
-  pub going_starts : Going f base from s p₀ page₀ from p₀ page₀
+module _ {f : ℕ → List ℕ → Ops} {base from : ℕ} {s : List ℕ} {p₀ : Pen} where
+  pub going_starts : Going f base from s p₀ from p₀
   unfolding each_from with_rest
   going_starts = record { done = []; left = record { fuel = length s; enough = omega arith; work = refl }; rendered = nothing }
 
-  module _ {at : ℕ} {p : Pen} {page : List ℕ} (g : Going f base from s p₀ page₀ at p page) where
-    pub going_more : {to : ℕ} {p' : Pen} {page' : List ℕ} → at < length s → Ends s at to → Rendered (f (base + at) (take (to - at) (drop at s))) p page p' page'
-        → Going f base from s p₀ page₀ to p' page'
+  module _ {at : ℕ} {p : Pen} (g : Going f base from s p₀ at p) where
+    pub going_more : {to : ℕ} {p' : Pen} → at < length s → Ends s at to → Rendered (f (base + at) (take (to - at) (drop at s))) p p'
+        → Going f base from s p₀ to p'
     unfolding with_rest here
     going_more {to} h e r =
         let n : to - at ≡ span (drop at s) = omega (arith, e.end) in
@@ -42,6 +42,6 @@ module _ {f : ℕ → List ℕ → Ops} {base from : ℕ} {s : List ℕ} {p₀ :
           rendered = and_then g.rendered r;
         }
 
-    pub going_ends : length s ≤ at → Rendered (each_from f base from s) p₀ page₀ p page
+    pub going_ends : length s ≤ at → Rendered (each_from f base from s) p₀ p
     unfolding with_rest
     going_ends h = by g.rendered (sym (left_ends g.left h (λ k. ap (λ (os : Ops). g.done ++ os) (each_nil f k (base + at)) ∙ append-nil g.done)))

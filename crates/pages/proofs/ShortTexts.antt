@@ -1,6 +1,7 @@
 -- A short text of one line, and its marks on a plain page.
-use Rattle.rules.proofs.Basics.{◌≡◌, refl, sym, ap, ap₂, subst, ◌∙◌, List, [], ◌∷◌, ◌++◌, append-nil, Option, none, some, Bool, true, false, not, false≢true, not-true, ⊎_elim, ℕ, suc, ◌+◌, ◌-◌, ◌*◌, ◌<◌, ◌≤◌, arith, length, get_or, take, drop, length-drop, take_all, ne_eqb, eq-eqb, le-ltb, dec_lt}
-use native.Mathlib.Nat.{eq-or-lt_of_le}
+use Rattle.std.specs.Prelude.{Option as Held, IfSome}
+use Rattle.std.specs.Bool.{then_some}
+use Rattle.rules.proofs.Basics.{◌≡◌, refl, sym, ap, ap₂, ◌∙◌, List, [], ◌∷◌, ◌++◌, append-nil, Option, none, some, Bool, true, false, ℕ, suc, ◌+◌, ◌-◌, ◌*◌, ◌<◌, ◌≤◌, arith, eqb, eqb→eq, length, get_or, take, drop, length-drop, take_all, ne_eqb, eq-eqb, le-ltb, dec_lt}
 use lib.Seq.{get_or-drop, get_or-take}
 use Rattle.rules.specs.Bytes.{newline}
 use Rattle.rules.specs.Layout.{parts}
@@ -15,8 +16,9 @@ use Rattle.fields.specs.Walk as walk
 use Rattle.styles.specs.StylesIn.{styles_in}
 use Rattle.lines.specs.declared.LineOp.TheVariants as Op
 use Rattle.lines.specs.Said.{operation, copies}
-use Rattle.pages.specs.OpsIn.{styled_in, run_fields_in, run_in, run_field_in}
-use Rattle.pages.specs.OneLines.{framed, TextFrom, BeginsAt, NoNewline, OneLine}
+use Rattle.pages.specs.OpsIn.{styled_in, run_fields_in, run_in}
+use Rattle.looks.specs.Calm.{Lacks}
+use Rattle.pages.specs.OneLines.{framed, TextFrom, BeginsAt, OneLine}
 use Rattle.pens.specs.States.{levels_bytes, line_bytes, line_then, ready_bytes, line_ready, on_line, waiting_bytes}
 use Rattle.pens.specs.Ran.{shown, machine, form, Interpreted, Rendered}
 use Rattle.pens.specs.declared.state.Form as F
@@ -24,7 +26,6 @@ use Rattle.pens.specs.declared.pen.Pen.{Pen}
 use Rattle.pages.proofs.Places.{long, behind}
 use Rattle.pens.proofs.Running.{shown_append, quietly}
 use Rattle.pens.proofs.BeforeItems.{item_says, part_item}
-use Rattle.pages.proofs.LeafLaws.{whole_run}
 
 -- ---- where a text begins
 
@@ -34,9 +35,6 @@ unfolding walk.part
 to_the_end v from to l = take_all (to - from) (drop from v) (omega (arith, length-drop from v, l))
 
 module _ (v : List ℕ) where
-  pub not_found : TextFrom v (length v)
-  not_found = record { inside = omega arith; style = none; is = λ h. absurd (omega (arith, h)) }
-
   module _ {f : Field} {t from to : ℕ} (e : f ≡ field_at v 0) (w : f ≡ Whole t from to) where
     pub begins_bare : (t ≡ 16 → ⊥) → to ≡ length v → TextFrom v from
     unfolding run_in run_fields_in framed
@@ -56,33 +54,13 @@ module _ (v : List ℕ) where
           is = λ h. rw (sym e ∙ w, eq-eqb t 16 s, sym e' ∙ w', to_the_end v from' to' l) refl;
         }
 
--- ---- the loop over eight bytes
-
--- it stands behind k bytes, and found a newline or not
-pub record Looked (s : List ℕ) (from k : ℕ) (found : Bool) : Type 0 where
-  pub inside : k ≤ 8
-  pub looked : found ≡ false → NoNewline s from (from + k)
-
-pub none_looked : (s : List ℕ) (from : ℕ) → Looked s from 0 false
-none_looked s from = record { inside = omega arith; looked = λ e. record { each = λ k l h. absurd (omega (arith, l, h)) } }
-
-module _ {s : List ℕ} {from k : ℕ} {found : Bool} (l : Looked s from k found) (h : k < 8) where
-  pub one_found : {r : Bool} → r ≡ true → Looked s from (k + 1) r
-  one_found e = record { inside = omega arith; looked = λ f. absurd (false≢true (sym f ∙ e)) }
-
-  pub none_found : {r : Bool} → (get_or s (from + k) 0 ≡ 10 → ⊥) → r ≡ found → Looked s from (k + 1) r
-  none_found n q =
-      record {
-        inside = omega arith;
-        looked = λ f. record {
-          each = λ j a l'. ⊎_elim (λ m. subst (λ (i : ℕ). get_or s i 0 ≡ 10 → ⊥) (sym m) n) (λ lt. (l.looked (sym q ∙ f)).each j a lt) (eq-or-lt_of_le (omega (arith, l')));
-        };
-      }
-
-pub looked_at : {s : List ℕ} {from k : ℕ} {found : Bool} → Looked s from k found → 8 ≤ k → not found ≡ true → NoNewline s from (from + 8)
-looked_at {s} {from} {k} {found} l g n =
-    let e : k ≡ 8 = omega (arith, l.inside) in
-    subst (λ (i : ℕ). NoNewline s from (from + i)) e (l.looked (not-true found n))
+-- what a test lets through
+pub some_if : (P : ℕ → Type 0) (a b k : ℕ) {r : Held ℕ} → r ≡ then_some (eqb a b) k → (a ≡ b → P k) → IfSome r P
+some_if P a b k e h = rw e (go (eqb a b) refl)
+  where
+    go : (t : Bool) → eqb a b ≡ t → IfSome (then_some t k) P
+    go true q = h (eqb→eq a b (rw q tt))
+    go false q = tt
 
 -- ---- one line
 
@@ -92,7 +70,7 @@ without_newline [] n = refl
 without_newline (x ∷ v) n =
     rw (ne_eqb x 10 (n 0 (omega arith)), without_newline v (λ k h. n (suc k) (omega arith))) refl
 
-pub a_line : (s : List ℕ) (from to : ℕ) → to ≤ length s → from < to → NoNewline s from to → OneLine (take (to - from) (drop from s))
+pub a_line : (s : List ℕ) (from to : ℕ) → to ≤ length s → from < to → Lacks 10 s from to → OneLine (take (to - from) (drop from s))
 unfolding text_ops later
 a_line s from to l h n =
     let v : List ℕ = take (to - from) (drop from s) in
@@ -104,16 +82,12 @@ a_line s from to l h n =
 
 -- ---- windows
 
--- a window around them
-pub window_around : {s : List ℕ} {from to : ℕ} → to - from ≤ 8 → 8 ≤ to → NoNewline s (to - 8) (to - 8 + 8) → NoNewline s from to
-window_around {s} {from} {to} g e n = record { each = λ k a b. n.each k (omega (arith, a, b)) (omega (arith, a, b)) }
-
-pub no_windows : {s : List ℕ} {from : ℕ} → NoNewline s from from
+pub no_windows : {s : List ℕ} {from : ℕ} → Lacks 10 s from from
 no_windows = record { each = λ k a b. absurd (omega (arith, a, b)) }
 
 -- a window more, which may begin before the others end
-pub window_more : {s : List ℕ} {from at b to : ℕ} → NoNewline s from at → b ≤ at → to ≡ b + 8 → NoNewline s b (b + 8) → NoNewline s from to
-window_more {s} {from} {at} n l e m =
+pub window_more : {s : List ℕ} {from at b to : ℕ} → Lacks 10 s from at → b ≤ at → Lacks 10 s b to → Lacks 10 s from to
+window_more {s} {from} {at} n l m =
     record { each = λ k a q. elim (dec_lt k at) [ yes h ↦ n.each k a h | no h ↦ m.each k (omega (arith, h)) (omega (arith, q)) ] }
 
 -- ---- the marks around it, on a plain page
@@ -188,14 +162,14 @@ module _ (v : List ℕ) (h : 0 < length v) (m : Machine) where
       )
 
 -- so a part is all that shows of it
-reframed : (style : Option (List ℕ)) (v : List ℕ) {p p' : Pen} {page page' : List ℕ} → 0 < length v → form p ≡ F.TheVariants.Plain → Interpreted Op.AppendToLine v p page p' page'
-    → Rendered (framed style (part v ∷ [])) p page p' page'
+reframed : (style : Option (List ℕ)) (v : List ℕ) {p p' : Pen} → 0 < length v → form p ≡ F.TheVariants.Plain → Interpreted Op.AppendToLine v p p'
+    → Rendered (framed style (part v ∷ [])) p p'
 unfolding operation
 reframed style v {p} h f i =
     let r = quietly i tt in
     let (a, b) = framed_alike v h (machine p) style in
     record {
-      ran = record { machine_then = r.ran.machine_then ∙ sym a; written = rw (f, b) (rw f at r.ran.written); form_kept = r.ran.form_kept };
+      ran = record { machine_then = r.ran.machine_then ∙ sym a; put = rw (f, b) (rw f at r.ran.put); form_kept = r.ran.form_kept };
       indent_kept = r.indent_kept;
     }
 
@@ -203,8 +177,8 @@ module _ (s : List ℕ) (start to : ℕ) {r : ℕ} (h : start ≤ to) (l : to �
   pub begins_within : start + r ≤ to
   begins_within = omega (arith, long s start to l, t.inside, h)
 
-  pub short_text : {p p' : Pen} {page page' : List ℕ} → OneLine (take (to - (start + r)) (drop (start + r) s)) → form p ≡ F.TheVariants.Plain
-      → Interpreted Op.AppendToLine (take (to - (start + r)) (drop (start + r) s)) p page p' page' → Rendered (run_in (take (to - start) (drop start s))) p page p' page'
+  pub short_text : {p p' : Pen} → OneLine (take (to - (start + r)) (drop (start + r) s)) → form p ≡ F.TheVariants.Plain
+      → Interpreted Op.AppendToLine (take (to - (start + r)) (drop (start + r) s)) p p' → Rendered (run_in (take (to - start) (drop start s))) p p'
   short_text o f i =
       let any : start + r < to = omega (arith, o.any, long s (start + r) to l) in
       rw (t.is (omega (arith, any, long s start to l)), behind s start to r begins_within, o.line) (reframed t.style (take (to - (start + r)) (drop (start + r) s)) o.any f i)
@@ -212,16 +186,7 @@ module _ (s : List ℕ) (start to : ℕ) {r : ℕ} (h : start ≤ to) (l : to �
   pub begins_at : BeginsAt s start (start + r) to
   begins_at = let e : r ≡ start + r - start = omega arith in record { behind = omega arith; within = begins_within; begins = rw e at t }
 
-pub longer_text : {s : List ℕ} {start from to : ℕ} {p p' : Pen} {page page' : List ℕ} → start ≤ to → to ≤ length s → BeginsAt s start from to → OneLine (take (to - from) (drop from s)) → form p ≡ F.TheVariants.Plain
-    → Interpreted Op.AppendToLine (take (to - from) (drop from s)) p page p' page' → Rendered (run_in (take (to - start) (drop start s))) p page p' page'
+pub longer_text : {s : List ℕ} {start from to : ℕ} {p p' : Pen} → start ≤ to → to ≤ length s → BeginsAt s start from to → OneLine (take (to - from) (drop from s)) → form p ≡ F.TheVariants.Plain
+    → Interpreted Op.AppendToLine (take (to - from) (drop from s)) p p' → Rendered (run_in (take (to - start) (drop start s))) p p'
 longer_text {s} {start} {from} {to} h l b o f i =
     let e : from ≡ start + (from - start) = omega (arith, b.behind) in short_text s start to h l b.begins (rw e at o) f (rw e at i)
-
--- the same behind a header that is there
-pub run_within : (s : List ℕ) (at to : ℕ) {r : ℕ} → 3 ≤ to - at → to ≤ length s → TextFrom (take (to - (at + 3)) (drop (at + 3) s)) r → at + 3 + r ≤ to
-run_within s at to h l t = begins_within s (at + 3) to (omega (arith, h)) l t
-
-pub short_run : (s : List ℕ) (at to : ℕ) {r : ℕ} {p p' : Pen} {page page' : List ℕ} → 3 ≤ to - at → to ≤ length s → TextFrom (take (to - (at + 3)) (drop (at + 3) s)) r
-    → OneLine (take (to - (at + 3 + r)) (drop (at + 3 + r) s)) → form p ≡ F.TheVariants.Plain
-    → Interpreted Op.AppendToLine (take (to - (at + 3 + r)) (drop (at + 3 + r) s)) p page p' page' → Rendered (run_field_in (take (to - at) (drop at s))) p page p' page'
-short_run s at to h l t o f i = whole_run s at to l h (short_text s (at + 3) to (omega (arith, h)) l t o f i)

@@ -29,7 +29,7 @@ module _ (ws : List ℕ) (left : ℕ) (directly : Bool) (base : ℕ) (s : List �
   abbrev node : Ops
   node = node_in (marked ws) left directly (base + at) whole
 
-  pub cut_node : {p : Pen} {page : List ℕ} → to - at < 3 → Rendered node p page p page
+  pub cut_node : {p : Pen} → to - at < 3 → Rendered node p p
   unfolding node_by
   cut_node h = rw (node_is (marked ws) left directly (base + at) whole, lt-leb 3 (length whole) (rw (long s at to l) h)) nothing
 
@@ -38,32 +38,32 @@ module _ (ws : List ℕ) (left : ℕ) (directly : Bool) (base : ℕ) (s : List �
     unfolding node_by
     by_tag = node_is (marked ws) left directly (base + at) whole ∙ rw (le-leb 3 (length whole) (rw (long s at to l) w), first s at to (omega (arith, w)) ∙ e) refl
 
-    pub node_three : {p p' : Pen} {page page' : List ℕ} → t ≡ 3 → Rendered (three_in (marked ws) left (base + at) whole) p page p' page' → Rendered node p page p' page'
+    pub node_three : {p p' : Pen} → t ≡ 3 → Rendered (three_in (marked ws) left (base + at) whole) p p' → Rendered node p p'
     node_three q r = rw (by_tag, q) r
 
-    pub node_four : {p p' : Pen} {page page' : List ℕ} → t ≡ 4 → Rendered (four_in (marked ws) left (base + at) whole) p page p' page' → Rendered node p page p' page'
+    pub node_four : {p p' : Pen} → t ≡ 4 → Rendered (four_in (marked ws) left (base + at) whole) p p' → Rendered node p p'
     node_four q r = rw (by_tag, q) r
 
-    pub node_leaf : {p p' : Pen} {page page' : List ℕ} → (t ≡ 3 → ⊥) → (t ≡ 4 → ⊥) → Rendered (leaf_in directly t (take (to - (at + 3)) (drop (at + 3) s))) p page p' page'
-        → Rendered node p page p' page'
+    pub node_leaf : {p p' : Pen} → (t ≡ 3 → ⊥) → (t ≡ 4 → ⊥) → Rendered (leaf_in directly t (take (to - (at + 3)) (drop (at + 3) s))) p p'
+        → Rendered node p p'
     node_leaf n3 n4 r = rw (by_tag, ne_eqb t 3 n3, ne_eqb t 4 n4, behind s at to 3 (omega (arith, w))) r
 
 -- ---- a 4: by its mark
 
-module _ (ws : List ℕ) (left at : ℕ) (h : List ℕ) {c : Bool} (e : c ≡ marked ws at) {p p' : Pen} {page page' : List ℕ} where
-  pub chosen_four : c ≡ true → Rendered (three_in (marked ws) left at h) p page p' page' → Rendered (four_in (marked ws) left at h) p page p' page'
+module _ (ws : List ℕ) (left at : ℕ) (h : List ℕ) {c : Bool} (e : c ≡ marked ws at) {p p' : Pen} where
+  pub chosen_four : c ≡ true → Rendered (three_in (marked ws) left at h) p p' → Rendered (four_in (marked ws) left at h) p p'
   unfolding three_in four_in
   chosen_four q r = go left r
     where
-      go : (left : ℕ) → Rendered (three_in (marked ws) left at h) p page p' page' → Rendered (four_in (marked ws) left at h) p page p' page'
+      go : (left : ℕ) → Rendered (three_in (marked ws) left at h) p p' → Rendered (four_in (marked ws) left at h) p p'
       go zero r = r
       go (suc left) r = rw (sym e ∙ q) r
 
-  pub a_four : c ≡ false → (left ≡ 0 → ⊥) → Rendered (fragments_by false (node_in (marked ws) (left - 1) false) at h) p page p' page' → Rendered (four_in (marked ws) left at h) p page p' page'
+  pub a_four : c ≡ false → (left ≡ 0 → ⊥) → Rendered (fragments_by false (node_in (marked ws) (left - 1) false) at h) p p' → Rendered (four_in (marked ws) left at h) p p'
   unfolding four_in
   a_four q n r = go left n r
     where
-      go : (left : ℕ) → (left ≡ 0 → ⊥) → Rendered (fragments_by false (node_in (marked ws) (left - 1) false) at h) p page p' page' → Rendered (four_in (marked ws) left at h) p page p' page'
+      go : (left : ℕ) → (left ≡ 0 → ⊥) → Rendered (fragments_by false (node_in (marked ws) (left - 1) false) at h) p p' → Rendered (four_in (marked ws) left at h) p p'
       go zero n r = absurd (n refl)
       go (suc left) n r = let k : suc left - 1 ≡ left = omega arith in rw (sym e ∙ q) (rw k at r)
 
@@ -73,9 +73,9 @@ part_within base s at to a l h = omega (arith, long s at to l, h, a)
 
 -- ---- an indented block
 
-pub a_three : (ws : List ℕ) (left at : ℕ) (h : List ℕ) {p p' : Pen} {n n₁ n₂ : ℕ} {page page' : List ℕ} → (left ≡ 0 → ⊥) → Unseen indent p.state n₁ → Unseen (break a_newline) n₁ n₂
-    → Rendered (fragments_by true (node_in (marked ws) (left - 1) true) at h) (record { at = p.at; state = n₂ }) page p' page' → Unseen unindent p'.state n
-    → Rendered (three_in (marked ws) left at h) p page (record { at = p'.at; state = n }) page'
+pub a_three : (ws : List ℕ) (left at : ℕ) (h : List ℕ) {p p' : Pen} {n n₁ n₂ : ℕ} → (left ≡ 0 → ⊥) → Unseen indent p.state n₁ → Unseen (break a_newline) n₁ n₂
+    → Rendered (fragments_by true (node_in (marked ws) (left - 1) true) at h) (record { page = p.page; state = n₂ }) p' → Unseen unindent p'.state n
+    → Rendered (three_in (marked ws) left at h) p (record { page = p'.page; state = n })
 unfolding three_in indented_by
 a_three ws zero at h z d b r u = absurd (z refl)
 a_three ws (suc left) at h z d b r u = let e : suc left - 1 ≡ left = omega arith in indented (unseen_ran d) (and_then (break_rendered b) (rw e at r)) (unseen_ran u)
@@ -86,6 +86,6 @@ a_three ws (suc left) at h z d b r u = let e : suc left - 1 ≡ left = omega ari
 unfoldable pub fragment_ops : (ws : List ℕ) (left : ℕ) (directly : Bool) → (at : ℕ) → List ℕ → Ops
 fragment_ops ws left directly at f = each_from (node_in (marked ws) left directly) at 3 f ++ behind_fragment directly
 
-pub no_nodes : (ws : List ℕ) (left : ℕ) (directly : Bool) (at : ℕ) (s : List ℕ) {p : Pen} {page : List ℕ} → length s ≤ 3 → Rendered (fragment_in (marked ws) left directly at 3 s) p page p page
+pub no_nodes : (ws : List ℕ) (left : ℕ) (directly : Bool) (at : ℕ) (s : List ℕ) {p : Pen} → length s ≤ 3 → Rendered (fragment_in (marked ws) left directly at 3 s) p p
 unfolding fragment_in each_from
 no_nodes ws left directly at s h = rw (drop_of_length-le s h, each_nil (node_in (marked ws) left directly) (length s) (at + 3)) nothing

@@ -1,10 +1,9 @@
 -- The page of a whole file: what is refused, how long it is, and what is written.
+use Rattle.std.specs.Prelude.{Option as Held, Result as Answer, Ok, Err}
 use Rattle.rules.proofs.Basics.{◌≡◌, refl, sym, ap, subst, ◌∙◌, List, [], ◌++◌, append-nil, append_assoc, Bool, true, false, ◌&&◌, ℕ, ◌+◌, ◌*◌, ◌/◌, ◌<◌, ◌≤◌, arith, le_trans, leb, length, leb-true, le-leb, lt-leb}
 use Rattle.rules.specs.Limits.{most_bytes, plain_per_byte, html_per_byte, html_frame}
 use Rattle.rules.specs.Bytes.{newline}
 use Rattle.rules.specs.declared.Refusal.{Refusal}
-use Rattle.rules.specs.declared.Answer.{Answer}
-use Rattle.rules.specs.declared.Answer.TheVariants.{Done, Refused}
 use Rattle.rules.specs.Result.{Result, refused, accepted, ◌>>=◌, said}
 use Rattle.rules.specs.Tree.{Frag}
 use Rattle.rules.specs.Encode.{encode}
@@ -21,9 +20,10 @@ use Rattle.rules.specs.Marks.{marked, painted}
 use Rattle.rules.proofs.Files.{Read, tree_read}
 use Rattle.rules.proofs.Marked.{painted_long, painted_none, ShownBy, shown_by_none}
 use Rattle.verify.proofs.Verdicts.{refused_by, accepted_by}
-use Rattle.writing.specs.Written.{last, Written}
+use Rattle.writing.specs.declared.Page as Lent
+use Rattle.writing.specs.Written.{last, Written, Put}
 use Rattle.writing.proofs.Laws as writing
-use Rattle.writing.proofs.Laws.{how_long, fits, no_page}
+use Rattle.writing.proofs.Laws.{how_long, fits}
 use Rattle.pages.specs.OpsIn.{fragment_in}
 use Rattle.pens.specs.Ran.{shown, machine, form, Rendered}
 use Rattle.pages.specs.Kinds.{page_kind, form_of, framing_of, head, foot, page_in, page_of, longest_for, html_fits, surely_fits, page_outcome}
@@ -39,11 +39,11 @@ use Rattle.rules.proofs.Fills.{fill_append, fill_makes}
 
 -- ---- the pen over a whole file
 
-pub whole_page : (k : Kind) (ws s : List ℕ) {w : Framing} {p p' : Pen} {page page₁ page₂ page₃ : List ℕ} {r : ℕ} → w ≡ framing_of k → Written page 0 (head w) page₁ p.at
-    → form p ≡ form_of k → machine p ≡ start → Rendered (fragment_in (marked ws) 32 false 0 0 s) p page₁ p' page₂ → Written page₂ p'.at (foot w) page₃ r
-    → Written page 0 (page_in k ws s) page₃ r
+pub whole_page : (k : Kind) (ws s : List ℕ) {w : Held Framing} {a b : Lent.Page} {p p' : Pen} → w ≡ framing_of k → Put a (head w) p.page
+    → form p ≡ form_of k → machine p ≡ start → Rendered (fragment_in (marked ws) 32 false 0 0 s) p p' → Put p'.page (foot w) b
+    → Put a (page_in k ws s) b
 unfolding page_in
-whole_page k ws s q h f e r g = rw (← q) (writing.then h (writing.then (rw (f, e) at r.ran.written) g))
+whole_page k ws s q h f e r g = rw (← q) (writing.put_then h (writing.put_then (rw (f, e) at r.ran.put) g))
 
 -- ---- the kinds
 
@@ -88,6 +88,15 @@ html_room n room h =
     both true b e = (refl, e)
     both false b e = no_path cc
 
+-- a page that isn't plain is an HTML page
+pub html_kind : (k : Kind) (n room : ℕ) → (k ≡ K.TheVariants.Plain → ⊥) → html_fits n room ≡ surely_fits k n room
+unfolding surely_fits
+html_kind K.TheVariants.Plain n room p = absurd (p refl)
+html_kind K.TheVariants.Body n room p = refl
+html_kind K.TheVariants.Document n room p = refl
+html_kind K.TheVariants.StrictBody n room p = refl
+html_kind K.TheVariants.StrictDocument n room p = refl
+
 room_for : (k : Kind) (n room : ℕ) → surely_fits k n room ≡ true → most_of (page_kind k) n ≤ room
 unfolding surely_fits
 room_for K.TheVariants.Plain n room h = omega (arith, leb-true n (room / plain_per_byte) h)
@@ -130,7 +139,7 @@ strict_check K.TheVariants.StrictDocument s e = refl
 
 -- ---- what each kind answers: by the text of a tree, and by the bytes of its file
 
-pub page_refused : (k : Kind) (s page : List ℕ) (a : Answer) {r : Refusal} → a ≡ Refused r → said a ≡ check_answer_by (tree_of (page_kind k)) s → (said a, page) ≡ page_outcome k s page
+pub page_refused : (k : Kind) (s page : List ℕ) (a : Answer ℕ Refusal) {r : Refusal} → a ≡ Err r → said a ≡ check_answer_by (tree_of (page_kind k)) s → (said a, page) ≡ page_outcome k s page
 unfolding left_page ◌>>=◌
 page_refused k s page a q e =
     let (n, p, no_tree, says) = refused_by (tree_of (page_kind k)) s a e q in
@@ -170,24 +179,20 @@ module _ (k : Kind) (ws s page : List ℕ) (S : ShownBy (tree_of (page_kind k)) 
       let h' : surely_fits k (length (painted ws s)) (length page) ≡ true = ap (λ (n : ℕ). surely_fits k n (length page)) (painted_long ws s) ∙ h in
       page_fits (rw shown_text (fits_surely k (painted ws s) S.root (length page) S.shown_bytes S.shows h')) w
 
-  -- measuring lends no page, and leaves none in front of the page itself
+  -- measuring lends no page
   module _ {needed : ℕ} {x : List ℕ} (m : Written [] 0 (page_in k ws s) x needed) where
-    pub page_too_short : length (x ++ page) < needed → (refused 10 needed, x ++ page) ≡ page_outcome k (painted ws s) page
+    pub page_too_short : length page < needed → (refused 10 needed, page) ≡ page_outcome k (painted ws s) page
     unfolding written
     page_too_short h =
         let l : needed ≡ length (page_in k ws s) = how_long m text_short in
-        let none : x ++ page ≡ page = ap (λ (x : List ℕ). x ++ page) (no_page m) in
-        let h' : length page < length (page_in k ws s) = omega (arith, l, ap length none) in
-        rw (shown_outcome, lt-leb (length (page_in k ws s)) (length page) h', l, none) refl
+        rw (shown_outcome, lt-leb (length (page_in k ws s)) (length page) (omega (arith, l, h)), l) refl
 
-    pub page_written : {r : ℕ} {page' : List ℕ} → needed ≤ length (x ++ page) → Written (x ++ page) 0 (page_in k ws s) page' r → (accepted r, page') ≡ page_outcome k (painted ws s) page
-    page_written h w =
-        let none : x ++ page ≡ page = ap (λ (x : List ℕ). x ++ page) (no_page m) in
-        page_fits (omega (arith, how_long m text_short, ap length none)) (rw none at w)
+    pub page_written : {r : ℕ} {page' : List ℕ} → needed ≤ length page → Written page 0 (page_in k ws s) page' r → (accepted r, page') ≡ page_outcome k (painted ws s) page
+    page_written h w = page_fits (omega (arith, how_long m text_short, h)) w
 
 -- ---- no marks
 
-pub accepted_shown : (k : Kind) {s : List ℕ} (a : Answer) {n : ℕ} → Bytes s → a ≡ Done n → said a ≡ check_answer_by (tree_of (page_kind k)) s
+pub accepted_shown : (k : Kind) {s : List ℕ} (a : Answer ℕ Refusal) {n : ℕ} → Bytes s → a ≡ Ok n → said a ≡ check_answer_by (tree_of (page_kind k)) s
     → ShownBy (tree_of (page_kind k)) s (painted [] s)
 accepted_shown k {s} a b q e = let (t, f) = accepted_by (tree_of (page_kind k)) s a e q in shown_by_none b (loose_tree (page_kind k) s t b f) f
 

@@ -1,5 +1,5 @@
 -- The kinds of pages: how each shows its items, what stands around them, and what it answers.
-use Rattle.std.specs.Prelude.{List, [], ◌++◌, Bool, false, ◌&&◌, ℕ, ◌-◌, ◌/◌, leb}
+use Rattle.std.specs.Prelude.{Option, Some, None, List, [], ◌++◌, Bool, false, ◌&&◌, ℕ, ◌-◌, ◌/◌, leb}
 use Rattle.rules.specs.Limits.{most_blocks, plain_per_byte, html_per_byte, html_frame}
 use Rattle.rules.specs.Bytes.{newline}
 use Rattle.rules.specs.Result.{Result}
@@ -32,23 +32,23 @@ form_of K.TheVariants.Document = F.TheVariants.Html
 form_of K.TheVariants.StrictBody = F.TheVariants.Strict
 form_of K.TheVariants.StrictDocument = F.TheVariants.Strict
 
-unfoldable pub framing_of : K.Kind → Fr.Framing
-framing_of K.TheVariants.Plain = Fr.TheVariants.Nothing
-framing_of K.TheVariants.Body = Fr.TheVariants.Body
-framing_of K.TheVariants.Document = Fr.TheVariants.Document
-framing_of K.TheVariants.StrictBody = Fr.TheVariants.Body
-framing_of K.TheVariants.StrictDocument = Fr.TheVariants.Document
+unfoldable pub framing_of : K.Kind → Option Fr.Framing
+framing_of K.TheVariants.Plain = None
+framing_of K.TheVariants.Body = Some Fr.TheVariants.Body
+framing_of K.TheVariants.Document = Some Fr.TheVariants.Document
+framing_of K.TheVariants.StrictBody = Some Fr.TheVariants.Body
+framing_of K.TheVariants.StrictDocument = Some Fr.TheVariants.Document
 
 -- what stands before the items, and behind them
-unfoldable pub head : Fr.Framing → List ℕ
-head Fr.TheVariants.Nothing = []
-head Fr.TheVariants.Body = opening
-head Fr.TheVariants.Document = before_body ++ opening
+unfoldable pub head : Option Fr.Framing → List ℕ
+head None = []
+head (Some Fr.TheVariants.Body) = opening
+head (Some Fr.TheVariants.Document) = before_body ++ opening
 
-unfoldable pub foot : Fr.Framing → List ℕ
-foot Fr.TheVariants.Nothing = []
-foot Fr.TheVariants.Body = closing
-foot Fr.TheVariants.Document = closing ++ after_body
+unfoldable pub foot : Option Fr.Framing → List ℕ
+foot None = []
+foot (Some Fr.TheVariants.Body) = closing
+foot (Some Fr.TheVariants.Document) = closing ++ after_body
 
 -- the page of some bytes with marks beside them, whether they are a file or not
 unfoldable pub page_in : K.Kind → (ws s : List ℕ) → List ℕ

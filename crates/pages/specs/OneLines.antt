@@ -1,5 +1,5 @@
 -- A run whose text is one line.
-use Rattle.std.specs.Prelude.{◌≡◌, List, [], ◌∷◌, ◌++◌, ℕ, ◌-◌, ◌<◌, ◌≤◌, length, get_or, take, drop}
+use Rattle.std.specs.Prelude.{◌≡◌, List, [], ◌∷◌, ◌++◌, ℕ, ◌-◌, ◌<◌, ◌≤◌, length, take, drop}
 use Rattle.std.proofs.Math.Option.{Option, none, some}
 use Rattle.rules.specs.Bytes.{newline}
 use Rattle.rules.specs.Lines.{mark, push, pop, part, text_ops}
@@ -12,7 +12,7 @@ unfoldable pub framed : Option (List ℕ) → Ops → Ops
 framed none os = os
 framed (some style) os = mark (push (styles_in style)) ∷ (os ++ (mark (pop (styles_in style)) ∷ []))
 
--- the text of a run with the value v begins at r, and ends with v; where r is the end, nothing is said
+-- the text of a run with the value v begins at r, and ends with v; of no bytes nothing is said
 pub record TextFrom (v : List ℕ) (r : ℕ) : Type 0 where
   pub inside : r ≤ length v
   pub style : Option (List ℕ)
@@ -23,10 +23,6 @@ pub record BeginsAt (s : List ℕ) (start from to : ℕ) : Type 0 where
   pub behind : start ≤ from
   pub within : from ≤ to
   pub begins : TextFrom (take (to - start) (drop start s)) (from - start)
-
--- the bytes of s at from, .., to - 1
-pub record NoNewline (s : List ℕ) (from to : ℕ) : Type 0 where
-  pub each : (k : ℕ) → from ≤ k → k < to → get_or s k 0 ≡ 10 → ⊥
 
 -- some bytes, without a newline
 pub record OneLine (v : List ℕ) : Type 0 where

@@ -1,12 +1,16 @@
 // The frames of pages: what stands before and behind the items. The strings are the original's, the style element's with its scope put in.
+
+#![tactic(auto, unfolding(crate::specs::Kinds::form_of, crate::specs::Kinds::framing_of))]
+
 ghost use Rattle.std.specs.Prelude.{◌≡◌};
-ghost use Rattle.writing.specs.Written.{Written};
+ghost use Rattle.writing.specs.Written.{Put};
 ghost use Rattle.pages.specs.Kinds.{form_of, framing_of, head, foot};
 
 use pens::state::Form;
-use writing::put_bytes;
+use writing::Page;
 
-#[derive(Clone, Copy, Drop)]
+// One name for each page: a form beside a framing would make a plain page in a frame, which there is not.
+#[derive(Debug, Clone, Copy, PartialEq, Eq)]
 pub enum Kind {
     Plain,
     Body,
@@ -15,10 +19,9 @@ pub enum Kind {
     StrictDocument,
 }
 
-// What stands around the items: nothing, the body's element, or the document and that element. Strict mode changes none of it.
-#[derive(Clone, Copy, Drop)]
+// What stands around the items, where anything does: the body's element, or the document and that element. Strict mode changes none of it.
+#[derive(Debug, Clone, Copy, PartialEq, Eq)]
 pub enum Framing {
-    Nothing,
     Body,
     Document,
 }
@@ -72,49 +75,51 @@ pub fn form_of(kind: Kind) -> Form
 {
     match kind {
         Kind::Plain => Form::Plain,
-        Kind::Body => Form::Html,
-        Kind::Document => Form::Html,
-        Kind::StrictBody => Form::Strict,
-        Kind::StrictDocument => Form::Strict,
+        Kind::Body | Kind::Document => Form::Html,
+        Kind::StrictBody | Kind::StrictDocument => Form::Strict,
     }
 }
 
-pub fn framing_of(kind: Kind) -> Framing
+pub fn framing_of(kind: Kind) -> Option<Framing>
     ensures { result ≡ framing_of kind }
 {
     match kind {
-        Kind::Plain => Framing::Nothing,
-        Kind::Body => Framing::Body,
-        Kind::Document => Framing::Document,
-        Kind::StrictBody => Framing::Body,
-        Kind::StrictDocument => Framing::Document,
+        Kind::Plain => None,
+        Kind::Body | Kind::StrictBody => Some(Framing::Body),
+        Kind::Document | Kind::StrictDocument => Some(Framing::Document),
     }
 }
 
 // What stands before the items.
-pub fn put_head(page: &mut [u8], at: usize, framing: Framing) -> usize
-    ensures { Written page.old at (head framing) page.new result }
+pub fn put_head(page: &mut Page<'_>, framing: Option<Framing>)
+    ensures put { Put page.old (head framing) page.new }
+    ensures same_page { page.new.bytes.ghost_name ≡ page.old.bytes.ghost_name }
 {
+    let Some(framing) = framing else {
+        return;
+    };
     match framing {
-        Framing::Nothing => at,
-        Framing::Body => put_bytes(page, at, &OPENING),
+        Framing::Body => page.put_bytes(&OPENING),
         Framing::Document => {
-            let body = put_bytes(page, at, &BEFORE_BODY);
-            put_bytes(page, body, &OPENING)
+            page.put_bytes(&BEFORE_BODY);
+            page.put_bytes(&OPENING);
         }
     }
 }
 
 // What stands behind them.
-pub fn put_foot(page: &mut [u8], at: usize, framing: Framing) -> usize
-    ensures { Written page.old at (foot framing) page.new result }
+pub fn put_foot(page: &mut Page<'_>, framing: Option<Framing>)
+    ensures put { Put page.old (foot framing) page.new }
+    ensures same_page { page.new.bytes.ghost_name ≡ page.old.bytes.ghost_name }
 {
+    let Some(framing) = framing else {
+        return;
+    };
     match framing {
-        Framing::Nothing => at,
-        Framing::Body => put_bytes(page, at, &CLOSING),
+        Framing::Body => page.put_bytes(&CLOSING),
         Framing::Document => {
-            let body = put_bytes(page, at, &CLOSING);
-            put_bytes(page, body, &AFTER_BODY)
+            page.put_bytes(&CLOSING);
+            page.put_bytes(&AFTER_BODY);
         }
     }
 }

@@ -1,6 +1,6 @@
 // The walk: a node, a block's fragments, a fragment's nodes. They call each other, with one block less left each time round. `base` is the place of s in the
-// file, which the marks are asked for.
-ghost use Rattle.std.specs.Prelude.{List, ℕ, ◌+◌, ◌-◌, ◌<◌, ◌≤◌, ◌^◌, length, take, drop};
+// file, which the marks are asked for. `left`, `marks` and `base` are no struct: a block changes one of them and a field another, so that each call would build it anew.
+ghost use Rattle.std.specs.Prelude.{◌≡◌, ◌+◌, ◌-◌, ◌<◌, ◌≤◌, ◌^◌, length, take, drop};
 ghost use Rattle.rules.specs.Limits.{most_bytes};
 ghost use Rattle.rules.specs.Marks.{marked};
 ghost use Rattle.pages.specs.OpsIn.{behind_fragment, fragments_by, three_in, four_in, node_in, fragment_in};
@@ -9,8 +9,9 @@ ghost use Rattle.pens.specs.Ran.{indent_of, Rendered};
 use crate::leaves::render_leaf;
 use crate::marks::is_marked;
 use fields::parts::field_end;
+use lines::Break;
 use pens::pen::Pen;
-use pens::state::{NEWLINE, broken, deeper, less_deep};
+use pens::state::{broken, deeper, less_deep};
 
 // A node, whose whole field stands at..to.
 #[cycle(render_flexible_render_fragment_render_fragments_render_indented_render_inner_render_node)]
@@ -18,165 +19,126 @@ fn render_node(
     s: &[u8],
     at: usize,
     to: usize,
-    page: &mut [u8],
-    pen: Pen,
+    pen: &mut Pen<'_>,
     directly_in_block: bool,
     left: usize,
     marks: &[u64],
     base: usize,
-) -> Pen
-    requires { (indent_of pen + left < 2 ^ 15) × (at ≤ to) × (to ≤ length s.now) × (base + length s.now ≤ most_bytes) }
-    ensures { Rendered (node_in (marked marks.now) left directly_in_block (base + at) (take (to - at) (drop at s.now))) pen page.old result page.new }
+)
+    requires { (indent_of pen.old + left < 2 ^ 15) × (at ≤ to) × (to ≤ length s.now) × (base + length s.now ≤ most_bytes) }
+    ensures { Rendered (node_in (marked marks.now) left directly_in_block (base + at) (take (to - at) (drop at s.now))) pen.old pen.new }
 {
     if to - at < 3 {
-        return pen;
+        return;
     }
     let tag = s[at];
     if tag == 3 {
-        return render_indented(&s[at..to], page, pen, left, marks, base + at);
+        return render_indented(&s[at..to], pen, left, marks, base + at);
     }
     if tag == 4 {
-        return render_flexible(&s[at..to], page, pen, left, marks, base + at);
+        return render_flexible(&s[at..to], pen, left, marks, base + at);
     }
-    render_leaf(tag, s, at + 3, to, page, pen, directly_in_block)
+    render_leaf(tag, s, at + 3, to, pen, directly_in_block);
 }
 
 // A 4, whose whole field is s: by its mark an indented block, or its fragments in the line.
 #[cycle(render_flexible_render_fragment_render_fragments_render_indented_render_inner_render_node)]
-fn render_flexible(
-    s: &[u8],
-    page: &mut [u8],
-    pen: Pen,
-    left: usize,
-    marks: &[u64],
-    base: usize,
-) -> Pen
-    requires { (indent_of pen + left < 2 ^ 15) × (base + length s.now ≤ most_bytes) }
-    ensures { Rendered (four_in (marked marks.now) left base s.now) pen page.old result page.new }
+fn render_flexible(s: &[u8], pen: &mut Pen<'_>, left: usize, marks: &[u64], base: usize)
+    requires { (indent_of pen.old + left < 2 ^ 15) × (base + length s.now ≤ most_bytes) }
+    ensures { Rendered (four_in (marked marks.now) left base s.now) pen.old pen.new }
 {
     if is_marked(marks, base) {
-        return render_indented(s, page, pen, left, marks, base);
+        return render_indented(s, pen, left, marks, base);
     }
     if left == 0 {
-        return pen;
+        return;
     }
-    render_fragments(s, page, pen, false, left - 1, marks, base)
+    render_fragments(s, pen, false, left - 1, marks, base);
 }
 
 // An indented block, whose whole field is s.
 #[cycle(render_flexible_render_fragment_render_fragments_render_indented_render_inner_render_node)]
-fn render_indented(
-    s: &[u8],
-    page: &mut [u8],
-    pen: Pen,
-    left: usize,
-    marks: &[u64],
-    base: usize,
-) -> Pen
-    requires { (indent_of pen + left < 2 ^ 15) × (base + length s.now ≤ most_bytes) }
-    ensures { Rendered (three_in (marked marks.now) left base s.now) pen page.old result page.new }
+fn render_indented(s: &[u8], pen: &mut Pen<'_>, left: usize, marks: &[u64], base: usize)
+    requires { (indent_of pen.old + left < 2 ^ 15) × (base + length s.now ≤ most_bytes) }
+    ensures { Rendered (three_in (marked marks.now) left base s.now) pen.old pen.new }
 {
     if left == 0 {
-        return pen;
+        return;
     }
-    let entered = Pen {
-        at: pen.at,
-        state: broken(deeper(pen.state), NEWLINE),
-    };
-    let inside = render_fragments(s, page, entered, true, left - 1, marks, base);
-    Pen {
-        at: inside.at,
-        state: less_deep(inside.state),
-    }
+    pen.state = broken(deeper(pen.state), Break::NewLine);
+    render_fragments(s, pen, true, left - 1, marks, base);
+    pen.state = less_deep(pen.state);
 }
 
 // Behind a fragment of an indented block the line ends.
-fn end_fragment(pen: Pen, directly_in_block: bool) -> Pen
-    ensures { (page : List ℕ) → Rendered (behind_fragment directly_in_block) pen page result page }
+fn end_fragment(pen: &mut Pen<'_>, directly_in_block: bool)
+    ensures { Rendered (behind_fragment directly_in_block) pen.old pen.new }
 {
     if directly_in_block {
-        return Pen {
-            at: pen.at,
-            state: broken(pen.state, NEWLINE),
-        };
+        pen.state = broken(pen.state, Break::NewLine);
     }
-    pen
 }
 
-// A block's fragments, one after the other; s is the block's whole field.
+// A block's fragments, one after the other; s is the block's whole field. No `for`: where a field ends is found as the loop goes, and its place is the marks'.
 #[cycle(render_flexible_render_fragment_render_fragments_render_indented_render_inner_render_node)]
 fn render_fragments(
     s: &[u8],
-    page: &mut [u8],
-    pen: Pen,
+    pen: &mut Pen<'_>,
     directly_in_block: bool,
     left: usize,
     marks: &[u64],
     base: usize,
-) -> Pen
-    requires { (indent_of pen + left < 2 ^ 15) × (base + length s.now ≤ most_bytes) }
-    ensures { Rendered (fragments_by directly_in_block (node_in (marked marks.now) left directly_in_block) base s.now) pen page.old result page.new }
+)
+    requires { (indent_of pen.old + left < 2 ^ 15) × (base + length s.now ≤ most_bytes) }
+    ensures { Rendered (fragments_by directly_in_block (node_in (marked marks.now) left directly_in_block) base s.now) pen.old pen.new }
 {
-    let mut p = pen;
     let mut at = 3;
     while at < s.len() {
         let to = field_end(s, at);
-        p = render_inner(
-            &s[at..to],
-            page,
-            p,
-            directly_in_block,
-            left,
-            marks,
-            base + at,
-        );
-        p = end_fragment(p, directly_in_block);
+        render_inner(&s[at..to], pen, directly_in_block, left, marks, base + at);
+        end_fragment(pen, directly_in_block);
         at = to;
     }
-    p
 }
 
 // A fragment of a block, whose whole field is s. An empty one is not entered.
 #[cycle(render_flexible_render_fragment_render_fragments_render_indented_render_inner_render_node)]
 fn render_inner(
     s: &[u8],
-    page: &mut [u8],
-    pen: Pen,
+    pen: &mut Pen<'_>,
     directly_in_block: bool,
     left: usize,
     marks: &[u64],
     base: usize,
-) -> Pen
-    requires { (indent_of pen + left < 2 ^ 15) × (base + length s.now ≤ most_bytes) }
-    ensures { Rendered (fragment_in (marked marks.now) left directly_in_block base 3 s.now) pen page.old result page.new }
+)
+    requires { (indent_of pen.old + left < 2 ^ 15) × (base + length s.now ≤ most_bytes) }
+    ensures { Rendered (fragment_in (marked marks.now) left directly_in_block base 3 s.now) pen.old pen.new }
 {
     if s.len() <= 3 {
-        return pen;
+        return;
     }
-    render_fragment(s, 3, page, pen, directly_in_block, left, marks, base)
+    render_fragment(s, 3, pen, directly_in_block, left, marks, base);
 }
 
-// A fragment's nodes, from `from` on.
+// A fragment's nodes, from `from` on, by their places as there.
 #[cycle(render_flexible_render_fragment_render_fragments_render_indented_render_inner_render_node)]
 pub fn render_fragment(
     s: &[u8],
     from: usize,
-    page: &mut [u8],
-    pen: Pen,
+    pen: &mut Pen<'_>,
     directly_in_block: bool,
     left: usize,
     marks: &[u64],
     base: usize,
-) -> Pen
-    requires { (indent_of pen + left < 2 ^ 15) × (base + length s.now ≤ most_bytes) }
-    ensures { Rendered (fragment_in (marked marks.now) left directly_in_block base from s.now) pen page.old result page.new }
+)
+    requires { (indent_of pen.old + left < 2 ^ 15) × (base + length s.now ≤ most_bytes) }
+    ensures rendered { Rendered (fragment_in (marked marks.now) left directly_in_block base from s.now) pen.old pen.new }
+    ensures same_page { pen.new.page.bytes.ghost_name ≡ pen.old.page.bytes.ghost_name }
 {
-    let mut p = pen;
     let mut at = from;
     while at < s.len() {
         let to = field_end(s, at);
-        p = render_node(s, at, to, page, p, directly_in_block, left, marks, base);
+        render_node(s, at, to, pen, directly_in_block, left, marks, base);
         at = to;
     }
-    p
 }

@@ -3,3 +3,4 @@ pub mod OfFiles
 pub mod MaskBytes
 pub mod Masks
 pub mod Pairs
+pub mod Unique

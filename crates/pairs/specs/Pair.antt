@@ -6,8 +6,11 @@ use Rattle.rules.specs.Walk.{Fields, end, bytes, inside, content, check, is_text
 use Rattle.rules.specs.Encode.{encode_fields}
 use Rattle.rules.specs.Answers.{itself, tree}
 use Rattle.rules.specs.Mask.{newlines, mask}
-use Rattle.pairs.specs.declared.Answer.{Answer}
-use Rattle.pairs.specs.declared.Answer.TheVariants.{Length, Refused}
+use Rattle.std.specs.Prelude.{Ok, Err}
+use Rattle.std.specs.Prelude as std
+use Rattle.rules.specs.Result as rules
+use Rattle.pairs.specs.declared.Refusal.{Refusal}
+use Rattle.pairs.specs.declared.Refusal.TheVariants.{File, NotMask, NoText}
 
 -- ---- 12
 
@@ -70,6 +73,15 @@ given_text o m p names = part_of (pair_answer o m p) p (if names then o else m)
 
 -- ---- what the code says
 
+unfoldable pub refusal : {A : Type 0} → Refusal → Result A
+refusal (File r) = rules.refusal r
+refusal (NotMask p) = refused 12 p
+refusal (NoText p) = refused 13 p
+
+-- the length of the text that was asked for, or a refusal
+abbrev pub Answer : Type 0
+Answer = std.Result ℕ Refusal
+
 unfoldable pub said : Answer → Result ℕ
-said (Length n) = accepted n
-said (Refused n p) = refused n p
+said (Ok n) = accepted n
+said (Err r) = refusal r

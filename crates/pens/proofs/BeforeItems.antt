@@ -3,7 +3,8 @@ use Rattle.std.specs.Prelude.{if◌then◌else◌}
 use Rattle.rules.proofs.Basics.{◌≡◌, refl, sym, ap, ◌∙◌, List, [], ◌∷◌, ◌++◌, append-nil, Option, none, some, Bool, true, false, ℕ, zero, suc, ◌+◌, ◌-◌, ◌*◌, ◌/◌, ◌%◌, ◌<◌, ◌≤◌, arith, ltb, lt-ltb, le-ltb, length, replicate}
 use Rattle.rules.specs.Lines as rules
 use Rattle.rules.specs.Lines.{Machine, Line, Break, LineOp, Item, making, release, levels, spacing, item, step, run, after, part}
-use Rattle.writing.specs.Written.{Written}
+use Rattle.writing.specs.declared.Page.{Page}
+use Rattle.writing.specs.Written.{Put}
 use Rattle.writing.proofs.Laws as writing
 use Rattle.lines.specs.declared.LineOp as O
 use Rattle.lines.specs.Said.{operation, copies, own}
@@ -13,7 +14,7 @@ use Rattle.pens.specs.declared.state.Form as F
 use Rattle.pens.specs.declared.pen.Pen.{Pen}
 use Rattle.pens.proofs.Running.{shown_append, shown_nothing}
 use Rattle.pens.proofs.Pens.{shown_making, shown_copies}
-use Rattle.pens.proofs.StateLaws.{indented_said, newline_said}
+use Rattle.pens.proofs.StateLaws.{indented_said}
 
 -- ---- the rules' items are these bytes
 
@@ -46,16 +47,16 @@ item_says m is f =
 
 -- ---- an operation with an item
 
-item_ran : (o : LineOp ℕ) (is : List (Item ℕ)) (f : Line → Line) {p p' : Pen} {page page₁ page₂ : List ℕ} {b : ℕ} {g : F.Form} → step (machine p) o ≡ item (machine p) false is f
-    → Written page p.at (ready_bytes (machine p)) page₁ b → g ≡ form p → Written page₁ b (shown g is) page₂ p'.at
-    → machine p' ≡ on_line (machine p) (f (line_ready (machine p))) → form p' ≡ form p → Ran (o ∷ []) p page p' page₂
+item_ran : (o : LineOp ℕ) (is : List (Item ℕ)) (f : Line → Line) {p p' : Pen} {q : Page} {g : F.Form} → step (machine p) o ≡ item (machine p) false is f
+    → Put p.page (ready_bytes (machine p)) q → g ≡ form p → Put q (shown g is) p'.page
+    → machine p' ≡ on_line (machine p) (f (line_ready (machine p))) → form p' ≡ form p → Ran (o ∷ []) p p'
 unfolding after run
 item_ran o is f {p} {g = g} e w q w' m k =
     let s : step (machine p) o ≡ (making (ready_bytes (machine p)) ++ is, on_line (machine p) (f (line_ready (machine p)))) = e ∙ item_says (machine p) is f in
     let bs : List ℕ = ready_bytes (machine p) in
     record {
       machine_then = m ∙ sym (ap (λ x. x.1) s);
-      written = rw (ap (λ x. x.0) s, append-nil (making bs ++ is), shown_append (form p) (making bs) is, shown_making (form p) bs, ← q) (writing.then w w');
+      put = rw (ap (λ x. x.0) s, append-nil (making bs ++ is), shown_append (form p) (making bs) is, shown_making (form p) bs, ← q) (writing.put_then w w');
       form_kept = k;
     }
 
@@ -77,20 +78,20 @@ unfolding step copies
 part_item [] m h = absurd (omega arith)
 part_item (x ∷ v) m h = refl
 
-module _ (v : List ℕ) {p p' : Pen} {page page₁ page₂ : List ℕ} {b : ℕ} {g : F.Form} (w : Written page p.at (ready_bytes (machine p)) page₁ b) (q : g ≡ form p) where
-  pub mark_ready : (op : O.LineOp) {l : ℕ} → IsMark op → Written page₁ b (shown g (own op v)) page₂ p'.at → (line_numbered l ≡ line_ready (machine p)) × (l < 4294967296)
-      → (machine p' ≡ on_line (machine p) (line_numbered l)) × (form p' ≡ form p) → Interpreted op v p page p' page₂
+module _ (v : List ℕ) {p p' : Pen} {z : Page} {g : F.Form} (w : Put p.page (ready_bytes (machine p)) z) (q : g ≡ form p) where
+  pub mark_ready : (op : O.LineOp) {l : ℕ} → IsMark op → Put z (shown g (own op v)) p'.page → (line_numbered l ≡ line_ready (machine p)) × (l < 4294967296)
+      → (machine p' ≡ on_line (machine p) (line_numbered l)) × (form p' ≡ form p) → Interpreted op v p p'
   mark_ready op i w' (e, h) (m, k) =
       record { ran = item_ran (operation op v) (own op v) (λ l. l) (mark_item op v (machine p) i) w q w' (m ∙ ap (on_line (machine p)) e) k }
 
-  pub part_ready : 0 < length v → Written page₁ b (shown g (copies v)) page₂ p'.at
-      → (machine p' ≡ on_line (machine p) (line_numbered 1)) × (form p' ≡ form p) → Interpreted O.TheVariants.AppendToLine v p page p' page₂
+  pub part_ready : 0 < length v → Put z (shown g (copies v)) p'.page
+      → (machine p' ≡ on_line (machine p) (line_numbered 1)) × (form p' ≡ form p) → Interpreted O.TheVariants.AppendToLine v p p'
   unfolding operation line_numbered
   part_ready h w' (m, k) = record { ran = item_ran (part v) (copies v) (λ l. rules.has_text) (part_item v (machine p) h) w q w' m k }
 
 -- on a plain page its bytes are its own
-pub plain_ready : (v : List ℕ) {p p' : Pen} {page page₁ page₂ : List ℕ} {b : ℕ} → Written page p.at (ready_bytes (machine p)) page₁ b → form p ≡ F.TheVariants.Plain → 0 < length v
-    → Written page₁ b v page₂ p'.at → (machine p' ≡ on_line (machine p) (line_numbered 1)) × (form p' ≡ form p) → Interpreted O.TheVariants.AppendToLine v p page p' page₂
+pub plain_ready : (v : List ℕ) {p p' : Pen} {q : Page} → Put p.page (ready_bytes (machine p)) q → form p ≡ F.TheVariants.Plain → 0 < length v
+    → Put q v p'.page → (machine p' ≡ on_line (machine p) (line_numbered 1)) × (form p' ≡ form p) → Interpreted O.TheVariants.AppendToLine v p p'
 plain_ready v w f h w' o = part_ready v w (sym f) h (rw (shown_copies v) w') o
 
 -- ---- a line's bytes, by its number
@@ -101,47 +102,26 @@ by_levels t zero o = refl
 by_levels t (suc zero) o = absurd (o refl)
 by_levels t (suc (suc k)) o = let e : k ≡ suc (suc k) - 2 = omega arith in ap (λ (k : ℕ). levels_bytes k t) e
 
-module _ (t l : ℕ) {page : List ℕ} {at : ℕ} where
-  pub at_text : l ≡ 1 → Written page at (line_bytes t (line_numbered l)) page at
+module _ (t l : ℕ) {p : Page} where
+  pub at_text : l ≡ 1 → Put p (line_bytes t (line_numbered l)) p
   unfolding line_bytes line_numbered
-  at_text e = rw e writing.nothing
+  at_text e = rw e writing.put_nothing
 
-  module _ {page' : List ℕ} {r : ℕ} (o : l ≡ 1 → ⊥) where
-    pub no_levels : l < 3 → Written page at (replicate (2 * t) 32) page' r → Written page at (line_bytes t (line_numbered l)) page' r
+  module _ {r : Page} (o : l ≡ 1 → ⊥) where
+    pub no_levels : l < 3 → Put p (replicate (2 * t) 32) r → Put p (line_bytes t (line_numbered l)) r
     unfolding levels_bytes
     no_levels h w = let q : 2 * t ≡ 2 * (t - (l - 2)) = omega (arith, h) in rw (by_levels t l o, le-ltb t (l - 2) (omega (arith, h)), ← q) w
 
-    pub fewer_levels : 3 ≤ l → l ≤ t + 2 → Written page at (replicate (2 * (t + 2 - l)) 32) page' r → Written page at (line_bytes t (line_numbered l)) page' r
+    pub fewer_levels : 3 ≤ l → l ≤ t + 2 → Put p (replicate (2 * (t + 2 - l)) 32) r → Put p (line_bytes t (line_numbered l)) r
     unfolding levels_bytes
     fewer_levels g h w = let q : 2 * (t + 2 - l) ≡ 2 * (t - (l - 2)) = omega (arith, h, g) in rw (by_levels t l o, le-ltb t (l - 2) (omega (arith, h)), ← q) w
 
-  pub too_many : {page₁ page' : List ℕ} {b r : ℕ} → t + 2 < l → Written page at (10 ∷ []) page₁ b → Written page₁ b (replicate (2 * t) 32) page' r
-      → Written page at (line_bytes t (line_numbered l)) page' r
+  pub too_many : {q r : Page} → t + 2 < l → Put p (10 ∷ []) q → Put q (replicate (2 * t) 32) r
+      → Put p (line_bytes t (line_numbered l)) r
   unfolding levels_bytes
-  too_many h w w' = rw (by_levels t l (λ o. omega (arith, o, h)), lt-ltb t (l - 2) (omega (arith, h))) (writing.then w w')
-
--- ---- the waiting break, by its number
-
-module _ (n : ℕ) {page : List ℕ} {at : ℕ} where
-  pub no_break : (n / 262144) % 4 ≡ 0 → Written page at (waiting_bytes (machine_in n).waiting) page at
-  unfolding machine_in waiting_numbered waiting_bytes
-  no_break e = rw e writing.nothing
-
-  pub a_break_space : {page' : List ℕ} {r : ℕ} → (n / 262144) % 4 ≡ 1 → Written page at (32 ∷ []) page' r → Written page at (waiting_bytes (machine_in n).waiting) page' r
-  unfolding machine_in waiting_numbered waiting_bytes
-  a_break_space e w = rw e w
-
-  pub a_break_newline : {page' : List ℕ} {r : ℕ} → ((n / 262144) % 4 ≡ 0 → ⊥) → ((n / 262144) % 4 ≡ 1 → ⊥) → Written page at (10 ∷ []) page' r → Written page at (waiting_bytes (machine_in n).waiting) page' r
-  unfolding machine_in waiting_bytes
-  a_break_newline z o w = rw (← newline_said ((n / 262144) % 4) z o) w
+  too_many h w w' = rw (by_levels t l (λ o. omega (arith, o, h)), lt-ltb t (l - 2) (omega (arith, h))) (writing.put_then w w')
 
 -- ---- the line there
-
-not_released : (w : ℕ) → w ≤ 1 → (l : Line) → l ≡ (release {X = ℕ} (waiting_numbered w) l).1
-unfolding release waiting_numbered
-not_released zero h l = refl
-not_released (suc zero) h l = refl
-not_released (suc (suc w)) h l = absurd (omega arith)
 
 -- a line without text is brought to the indent
 spaced_line : (t l : ℕ) → (l ≡ 1 → ⊥) → rules.indented_by t ≡ (spacing {X = ℕ} t false (line_numbered l)).1
@@ -151,14 +131,6 @@ spaced_line t (suc zero) o = absurd (o refl)
 spaced_line t (suc (suc k)) o = refl
 
 module _ (n : ℕ) where
-  pub emptied : 1 < (n / 262144) % 4 → line_numbered 0 ≡ line_then (machine_in n)
-  unfolding machine_in line_numbered line_then release
-  emptied h = rw (← newline_said ((n / 262144) % 4) (λ z. omega (arith, z, h)) (λ o. omega (arith, o, h)))
-
-  pub as_it_was : (n / 262144) % 4 ≤ 1 → line_numbered (n / 1048576) ≡ line_then (machine_in n)
-  unfolding machine_in line_then
-  as_it_was h = not_released ((n / 262144) % 4) h (line_numbered (n / 1048576))
-
   module _ {l : ℕ} (e : line_numbered l ≡ line_then (machine_in n)) where
     pub has_its_text : l ≡ 1 → (line_numbered 1 ≡ line_ready (machine_in n)) × (1 < 4294967296)
     unfolding line_ready line_numbered spacing
@@ -168,10 +140,10 @@ module _ (n : ℕ) where
     unfolding line_ready machine_in
     brought o = (sym (indented_said (n % 65536 + 2) (λ z. omega (arith, z)) (λ z. omega (arith, z)) refl) ∙ spaced_line (n % 65536) l o ∙ ap (λ (x : Line). (spacing {X = ℕ} (n % 65536) false x).1) e, omega arith)
 
-pub both_ready : (n l : ℕ) {page page₁ page₂ : List ℕ} {at b r : ℕ} → Written page at (waiting_bytes (machine_in n).waiting) page₁ b → line_numbered l ≡ line_then (machine_in n)
-    → Written page₁ b (line_bytes (n % 65536) (line_numbered l)) page₂ r → Written page at (ready_bytes (machine_in n)) page₂ r
+pub both_ready : (n l : ℕ) {p q r : Page} {w : Option Break} → w ≡ (machine_in n).waiting → Put p (waiting_bytes w) q → line_numbered l ≡ line_then (machine_in n)
+    → Put q (line_bytes (n % 65536) (line_numbered l)) r → Put p (ready_bytes (machine_in n)) r
 unfolding ready_bytes machine_in
-both_ready n l w e w' = writing.then w (rw e at w')
+both_ready n l q w e w' = writing.put_then (rw q at w) (rw e at w')
 
 -- another line's number in its place
 pub placed : (n l : ℕ) → (machine_in (l * 1048576 + n % 262144) ≡ on_line (machine_in n) (line_numbered l)) × (form_in (l * 1048576 + n % 262144) ≡ form_in n)
@@ -189,7 +161,7 @@ placed n l =
 
 -- ---- a part without bytes
 
-pub no_part : (v : List ℕ) {p : Pen} {page : List ℕ} → length v ≡ 0 → Interpreted O.TheVariants.AppendToLine v p page p page
+pub no_part : (v : List ℕ) {p : Pen} → length v ≡ 0 → Interpreted O.TheVariants.AppendToLine v p p
 unfolding operation step after run
-no_part [] {p} h = record { ran = record { machine_then = refl; written = rw (shown_nothing (form p)) writing.nothing; form_kept = refl } }
+no_part [] {p} h = record { ran = record { machine_then = refl; put = rw (shown_nothing (form p)) writing.put_nothing; form_kept = refl } }
 no_part (x ∷ v) h = absurd (omega arith)

@@ -1,12 +1,17 @@
 -- Breaks and indents on the pen's number: nothing shows of them.
-use Rattle.rules.proofs.Basics.{◌≡◌, refl, sym, ap, ◌∙◌, List, [], ◌∷◌, some, Bool, true, false, ℕ, zero, suc, ◌+◌, ◌-◌, ◌*◌, ◌/◌, ◌%◌, ◌<◌, ◌≤◌, arith, leb, leb-true, leb-false, le-leb, lt-leb, div-div-eq-div-mul, sub-one}
+use Rattle.rules.proofs.Basics.{◌≡◌, refl, sym, ap, ◌∙◌, List, [], ◌∷◌, some, Bool, true, false, ℕ, zero, suc, ◌+◌, ◌-◌, ◌*◌, ◌/◌, ◌%◌, ◌<◌, arith, leb, leb-true, leb-false, le-leb, lt-leb, div-div-eq-div-mul, sub-one}
+use Rattle.std.specs.Prelude.{Some}
+use Rattle.std.proofs.Math.Option.{none-ne-some}
 use Prim.Native.Nat.{pred}
 use Rattle.rules.specs.Lines as rules
 use Rattle.rules.specs.Lines.{LineOp, break, indent, unindent, step, run, after, ignored, joined}
 use Rattle.writing.proofs.Laws as writing
-use Rattle.pens.specs.States.{line_numbered, waiting_numbered, break_numbered, form_numbered, machine_in, form_in, Unseen}
+use Rattle.lines.specs.declared.Break as B
+use Rattle.lines.specs.Said.{break_of, waiting_of}
+use Rattle.pens.specs.States.{line_numbered, waiting_numbered, form_numbered, machine_in, form_in, Unseen}
 use Rattle.pens.specs.Ran.{form, indent_of, Ran, Rendered}
 use Rattle.pens.specs.declared.pen.Pen.{Pen}
+use Rattle.pens.proofs.StateLaws.{newline_said}
 use Rattle.pens.proofs.Running.{shown_nothing}
 use Rattle.rules.proofs.Runs.{broken_level}
 
@@ -21,17 +26,17 @@ module _ {n n' : ℕ} where
   unfolding step
   indent_level u = ap (λ x. x.1.level) (sym u.stepped)
 
-module _ {p : Pen} {n : ℕ} {page : List ℕ} where
-  pub unseen_ran : {o : LineOp ℕ} → Unseen o p.state n → Ran (o ∷ []) p page (record { at = p.at; state = n }) page
+module _ {p : Pen} {n : ℕ} where
+  pub unseen_ran : {o : LineOp ℕ} → Unseen o p.state n → Ran (o ∷ []) p (record { page = p.page; state = n })
   unfolding after run
   unseen_ran {o} u =
       record {
         machine_then = sym (ap (λ x. x.1) u.stepped);
-        written = rw (ap (λ x. x.0) u.stepped, shown_nothing (form p)) writing.nothing;
+        put = rw (ap (λ x. x.0) u.stepped, shown_nothing (form p)) writing.put_nothing;
         form_kept = u.form_kept;
       }
 
-  pub break_rendered : {b : rules.Break} → Unseen (break b) p.state n → Rendered (break b ∷ []) p page (record { at = p.at; state = n }) page
+  pub break_rendered : {b : rules.Break} → Unseen (break b) p.state n → Rendered (break b ∷ []) p (record { page = p.page; state = n })
   unfolding indent_of
   break_rendered u = record { ran = unseen_ran u; indent_kept = break_level u }
 
@@ -61,24 +66,16 @@ module _ (n : ℕ) where
   unfolding step rules.broken
   break_ignored {b} e = record { stepped = ap (λ (i : Bool). rules.broken i (machine_in n) b) e; form_kept = refl }
 
--- a break that waits joins the one that comes
-joined_more : (w b : ℕ) → w < b → b < 3 → waiting_numbered b ≡ some (joined (waiting_numbered w) (break_numbered b))
-unfolding waiting_numbered break_numbered joined
-joined_more zero zero h l = absurd (omega arith)
-joined_more zero (suc zero) h l = refl
-joined_more zero (suc (suc b)) h l = refl
-joined_more (suc zero) zero h l = absurd (omega arith)
-joined_more (suc zero) (suc zero) h l = absurd (omega arith)
-joined_more (suc zero) (suc (suc b)) h l = refl
-joined_more (suc (suc w)) b h l = absurd (omega arith)
-
-joined_less : (w b : ℕ) → b ≤ w → 0 < b → waiting_numbered w ≡ some (joined (waiting_numbered w) (break_numbered b))
-unfolding waiting_numbered break_numbered joined
-joined_less zero b h l = absurd (omega arith)
-joined_less (suc zero) zero h l = absurd (omega arith)
-joined_less (suc zero) (suc zero) h l = refl
-joined_less (suc zero) (suc (suc b)) h l = absurd (omega arith)
-joined_less (suc (suc w)) b h l = refl
+-- a break that waits joins the one that comes, which has the number k: the greater number waits
+joined_said : (w k : ℕ) {b : rules.Break} → waiting_numbered k ≡ some b → waiting_numbered (w + (k - w)) ≡ some (joined (waiting_numbered w) b)
+unfolding joined waiting_numbered
+joined_said zero k e = rw (zero_and k) e
+  where
+    zero_and : (k : ℕ) → 0 + (k - 0) ≡ k
+    zero_and k = omega arith
+joined_said (suc zero) zero e = absurd (none-ne-some _ e)
+joined_said (suc zero) (suc k) e = let q : 1 + (suc k - 1) ≡ suc k = omega arith in ap waiting_numbered q ∙ e
+joined_said (suc (suc w)) k e = sym (newline_said (suc (suc w) + (k - suc (suc w))) (λ z. omega (arith, z)) (λ o. omega (arith, o)))
 
 -- more on the waiting break's place
 more_waiting : (n d : ℕ) → (n + d * 262144) / 262144 ≡ n / 262144 + d
@@ -87,28 +84,26 @@ more_waiting n d = omega arith
 more_form : (n d : ℕ) → ((n + d * 262144) / 65536 ≡ n / 65536 + 4 * d) × ((n + d * 262144) % 65536 ≡ n % 65536)
 more_form n d = (omega arith, omega arith)
 
-module _ (n b : ℕ) (counts : ignored (machine_in n).level (machine_in n).line ≡ false) where
+module _ (n : ℕ) (b : B.Break) (counts : ignored (machine_in n).level (machine_in n).line ≡ false) where
   -- a number with the other parts of n
   break_waits : (n' : ℕ) → n' % 65536 ≡ n % 65536 → n' / 1048576 ≡ n / 1048576 → (n' / 65536) % 4 ≡ (n / 65536) % 4
-      → waiting_numbered ((n' / 262144) % 4) ≡ some (joined (waiting_numbered ((n / 262144) % 4)) (break_numbered b)) → Unseen (break (break_numbered b)) n n'
+      → waiting_numbered ((n' / 262144) % 4) ≡ some (joined (waiting_numbered ((n / 262144) % 4)) (break_of b)) → Unseen (break (break_of b)) n n'
   unfolding step rules.broken machine_in form_in
   break_waits n' i l f w =
       record {
-        stepped = ap (λ (i : Bool). rules.broken i (machine_in n) (break_numbered b)) counts ∙ (λ j. ([], record { level = sym i j; line = line_numbered (sym l j); waiting = sym w j }));
+        stepped = ap (λ (i : Bool). rules.broken i (machine_in n) (break_of b)) counts ∙ (λ j. ([], record { level = sym i j; line = line_numbered (sym l j); waiting = sym w j }));
         form_kept = ap form_numbered f;
       }
 
-  pub break_more : b < 3 → (n / 262144) % 4 < b → Unseen (break (break_numbered b)) n (n + (b - (n / 262144) % 4) * 262144)
-  break_more h l =
-      let d = b - (n / 262144) % 4 in
+  pub break_joins : (k : ℕ) → (waiting_numbered k ≡ waiting_of (Some b)) × (k < 3) → Unseen (break (break_of b)) n (n + (k - (n / 262144) % 4) * 262144)
+  unfolding waiting_of
+  break_joins k (e, h) =
+      let d = k - (n / 262144) % 4 in
       let over : (n + d * 262144) / 262144 ≡ n / 262144 + d = more_waiting n d in
-      let w : ((n + d * 262144) / 262144) % 4 ≡ b = rw over (omega (arith, h, l)) in
+      let w : ((n + d * 262144) / 262144) % 4 ≡ (n / 262144) % 4 + d = rw over (omega (arith, h)) in
       let line : (n + d * 262144) / 1048576 ≡ n / 1048576 =
-      sym (div-div-eq-div-mul (n + d * 262144) 262144 4) ∙ rw over (omega (arith, h, l)) ∙ div-div-eq-div-mul n 262144 4 in
-      break_waits (n + d * 262144) (more_form n d).1 line (rw (more_form n d).0 (omega arith)) (ap waiting_numbered w ∙ joined_more ((n / 262144) % 4) b l h)
-
-  pub break_less : 0 < b → b ≤ (n / 262144) % 4 → Unseen (break (break_numbered b)) n n
-  break_less z l = break_waits n refl refl refl (joined_less ((n / 262144) % 4) b l z)
+      sym (div-div-eq-div-mul (n + d * 262144) 262144 4) ∙ rw over (omega (arith, h)) ∙ div-div-eq-div-mul n 262144 4 in
+      break_waits (n + d * 262144) (more_form n d).1 line (rw (more_form n d).0 (omega arith)) (ap waiting_numbered w ∙ joined_said ((n / 262144) % 4) k e)
 
 -- ---- an indent
 

@@ -1,7 +1,8 @@
 -- A line with text on a plain page, where no break waits: of an operation nothing shows but its own bytes.
 use Rattle.rules.proofs.Basics.{◌≡◌, refl, sym, ap, ◌∙◌, List, [], ◌∷◌, append-nil, true, none, ℕ, ◌/◌, ◌%◌, arith, eqb, eqb→eq}
 use Rattle.rules.specs.Lines.{LineOp, part, Machine, has_text, Item, release, spacing, item, step, run, after}
-use Rattle.writing.specs.Written.{Written}
+use Rattle.writing.specs.declared.Page.{Page}
+use Rattle.writing.specs.Written.{Put}
 use Rattle.writing.proofs.Laws as writing
 use Rattle.lines.specs.declared.LineOp as O
 use Rattle.lines.specs.Said.{operation, copies, own}
@@ -26,9 +27,9 @@ quiet_machine n e =
     (rw (l, w) refl, rw f refl)
 
 -- nothing stands before an item there
-pub quiet_ready : (n : ℕ) {page : List ℕ} {at : ℕ} → quiet n ≡ true → Written page at (ready_bytes (machine_in n)) page at
+pub quiet_ready : (n : ℕ) {p : Page} → quiet n ≡ true → Put p (ready_bytes (machine_in n)) p
 unfolding ready_bytes line_then release waiting_bytes line_bytes
-quiet_ready n e = rw (quiet_machine n e).0 writing.nothing
+quiet_ready n e = rw (quiet_machine n e).0 writing.put_nothing
 
 -- a space that waits does
 pub space_ready : (n : ℕ) → eqb (n / 65536) 20 ≡ true → ready_bytes (machine_in n) ≡ 32 ∷ []
@@ -45,15 +46,15 @@ unfolding machine_in line_numbered waiting_numbered ready_bytes line_then releas
 newline_ready n e = let q : n ≡ 1572864 = eqb→eq n 1572864 (rw e tt) in rw q refl
 
 -- an operation that leaves the line as it is
-quiet_ran : (o : LineOp ℕ) (is : List (Item ℕ)) → ((l : ℕ) → step (within_line l) o ≡ (is, within_line l)) → {p p' : Pen} {page page' : List ℕ} → quiet p.state ≡ true
-    → Written page p.at (shown F.TheVariants.Plain is) page' p'.at → p'.state ≡ p.state → Ran (o ∷ []) p page p' page'
+quiet_ran : (o : LineOp ℕ) (is : List (Item ℕ)) → ((l : ℕ) → step (within_line l) o ≡ (is, within_line l)) → {p p' : Pen} → quiet p.state ≡ true
+    → Put p.page (shown F.TheVariants.Plain is) p'.page → p'.state ≡ p.state → Ran (o ∷ []) p p'
 unfolding after run
 quiet_ran o is leaves {p} e w k =
     let (m, f) = quiet_machine p.state e in
     let s : step (machine p) o ≡ (is, within_line (p.state % 65536)) = ap (λ x. step x o) m ∙ leaves (p.state % 65536) in
     record {
       machine_then = ap machine_in k ∙ m ∙ sym (ap (λ x. x.1) s);
-      written = rw (f, ap (λ x. x.0) s, append-nil is) w;
+      put = rw (f, ap (λ x. x.0) s, append-nil is) w;
       form_kept = ap form_in k;
     }
 
@@ -64,13 +65,13 @@ unfolding step item release spacing copies
 part_step [] l = refl
 part_step (x ∷ v) l = refl
 
-pub quiet_part : (v : List ℕ) {p p' : Pen} {page page' : List ℕ} → quiet p.state ≡ true → Written page p.at v page' p'.at → p'.state ≡ p.state
-    → Interpreted O.TheVariants.AppendToLine v p page p' page'
+pub quiet_part : (v : List ℕ) {p p' : Pen} → quiet p.state ≡ true → Put p.page v p'.page → p'.state ≡ p.state
+    → Interpreted O.TheVariants.AppendToLine v p p'
 unfolding operation
 quiet_part v e w k = record { ran = quiet_ran (part v) (copies v) (part_step v) e (rw (shown_copies v) w) k }
 
 -- ---- a mark, of which nothing shows at all
 
-pub quiet_mark : (op : O.LineOp) (v : List ℕ) {p : Pen} {page : List ℕ} → IsMark op → quiet p.state ≡ true → Interpreted op v p page p page
+pub quiet_mark : (op : O.LineOp) (v : List ℕ) {p : Pen} → IsMark op → quiet p.state ≡ true → Interpreted op v p p
 unfolding item release spacing
 quiet_mark op v q e = record { ran = quiet_ran (operation op v) (own op v) (λ l. mark_item op v (within_line l) q) e (mark_shows_nothing op v q) refl }

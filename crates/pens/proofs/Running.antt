@@ -37,18 +37,18 @@ shown_append F.TheVariants.Strict xs ys = html_shown_append strict_escape xs ys
 
 -- ---- operations in a row
 
-module _ {p p' p'' : Pen} {page page' page'' : List ℕ} {xs ys : Ops} where
-  pub then_ran : Ran xs p page p' page' → Ran ys p' page' p'' page'' → Ran (xs ++ ys) p page p'' page''
+module _ {p p' p'' : Pen} {xs ys : Ops} where
+  pub then_ran : Ran xs p p' → Ran ys p' p'' → Ran (xs ++ ys) p p''
   then_ran f g =
       let m = machine p in
       record {
         machine_then = g.machine_then ∙ rw (f.machine_then, after_append m xs ys);
-        written = rw (run_append m xs ys, shown_append (form p) (run m xs) (run (after m xs) ys))
-            (writing.then f.written (rw (f.machine_then, f.form_kept) at g.written));
+        put = rw (run_append m xs ys, shown_append (form p) (run m xs) (run (after m xs) ys))
+            (writing.put_then f.put (rw (f.machine_then, f.form_kept) at g.put));
         form_kept = g.form_kept ∙ f.form_kept;
       }
 
-  pub and_then : Rendered xs p page p' page' → Rendered ys p' page' p'' page'' → Rendered (xs ++ ys) p page p'' page''
+  pub and_then : Rendered xs p p' → Rendered ys p' p'' → Rendered (xs ++ ys) p p''
   and_then f g = record { ran = then_ran f.ran g.ran; indent_kept = g.indent_kept ∙ f.indent_kept }
 
 pub shown_nothing : (f : F.Form) → shown f [] ≡ []
@@ -57,15 +57,11 @@ shown_nothing F.TheVariants.Plain = refl
 shown_nothing F.TheVariants.Html = refl
 shown_nothing F.TheVariants.Strict = refl
 
-pub nothing : {p : Pen} {page : List ℕ} → Rendered [] p page p page
+pub nothing : {p : Pen} → Rendered [] p p
 unfolding after run
-nothing {p} = record { ran = record { machine_then = refl; written = rw (shown_nothing (form p)) writing.nothing; form_kept = refl }; indent_kept = refl }
+nothing {p} = record { ran = record { machine_then = refl; put = rw (shown_nothing (form p)) writing.put_nothing; form_kept = refl }; indent_kept = refl }
 
--- the page's length is kept
-pub kept : {p p' : Pen} {page page' : List ℕ} {os : Ops} → Rendered os p page p' page' → length page' ≡ length page
-kept f = writing.kept f.ran.written
-
-pub by : {p p' : Pen} {page page' : List ℕ} {xs ys : Ops} → Rendered xs p page p' page' → xs ≡ ys → Rendered ys p page p' page'
+pub by : {p p' : Pen} {xs ys : Ops} → Rendered xs p p' → xs ≡ ys → Rendered ys p p'
 by f e = rw e at f
 
 -- ---- one operation that keeps the indent
@@ -96,24 +92,24 @@ level_kept m Op.TheVariants.AppendToLine (x ∷ v) q = refl
 level_kept m Op.TheVariants.StartNewLine v q = refl
 level_kept m (Op.TheVariants.BreakIfWithinLine b) v q = broken_level (ignored m.level m.line) m (break_of b)
 
-module _ {p p' : Pen} {page page' : List ℕ} where
+module _ {p p' : Pen} where
   -- the machine's level after one operation is the pen's indent
-  indent_then : {o : LineOp ℕ} → Ran (o ∷ []) p page p' page' → indent_of p' ≡ (step (machine p) o).1.level
+  indent_then : {o : LineOp ℕ} → Ran (o ∷ []) p p' → indent_of p' ≡ (step (machine p) o).1.level
   unfolding after indent_of
   indent_then f = ap (λ (m : Machine). m.level) f.machine_then
 
-  pub quietly : {op : Op.LineOp} {v : List ℕ} → Interpreted op v p page p' page' → Quiet op → Rendered (operation op v ∷ []) p page p' page'
+  pub quietly : {op : Op.LineOp} {v : List ℕ} → Interpreted op v p p' → Quiet op → Rendered (operation op v ∷ []) p p'
   unfolding indent_of
   quietly {op} {v} f q = record { ran = f.ran; indent_kept = indent_then f.ran ∙ level_kept (machine p) op v q }
 
   -- and the one that makes it deeper
-  deeper : Ran (rules.indent ∷ []) p page p' page' → indent_of p' ≡ suc (indent_of p)
+  deeper : Ran (rules.indent ∷ []) p p' → indent_of p' ≡ suc (indent_of p)
   unfolding step indent_of
   deeper f = indent_then f
 
 -- what stands between a push and a pop of the indent keeps it
-pub indented : {p p₁ p₂ p₃ : Pen} {page page₁ page₂ page₃ : List ℕ} {os : Ops} → Ran (rules.indent ∷ []) p page p₁ page₁
-    → Rendered os p₁ page₁ p₂ page₂ → Ran (rules.unindent ∷ []) p₂ page₂ p₃ page₃ → Rendered (rules.indent ∷ (os ++ (rules.unindent ∷ []))) p page p₃ page₃
+pub indented : {p p₁ p₂ p₃ : Pen} {os : Ops} → Ran (rules.indent ∷ []) p p₁
+    → Rendered os p₁ p₂ → Ran (rules.unindent ∷ []) p₂ p₃ → Rendered (rules.indent ∷ (os ++ (rules.unindent ∷ []))) p p₃
 unfolding step indent_of
 indented f g h =
     record {

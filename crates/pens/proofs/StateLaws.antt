@@ -1,9 +1,10 @@
 -- The pen's number: its parts taken out and put together, and that a step's machine fits into one.
-use Rattle.rules.proofs.Basics.{◌≡◌, refl, sym, ap, ◌∙◌, List, [], ◌∷◌, some, Bool, true, false, ℕ, zero, suc, ◌+◌, ◌*◌, ◌/◌, ◌%◌, ◌^◌, ◌<◌, ◌≤◌, max, arith, eqb, eqb→eq}
+use Rattle.std.specs.Prelude.{Option as Held}
+use Rattle.rules.proofs.Basics.{◌≡◌, refl, sym, ap, ◌∙◌, List, [], ◌∷◌, some, Bool, true, false, ℕ, zero, suc, ◌+◌, ◌*◌, ◌/◌, ◌%◌, ◌^◌, ◌<◌, ◌≤◌, max, arith}
 use Rattle.rules.specs.Lines as rules
 use Rattle.rules.specs.Lines.{Machine, Break, LineOp, part, mark, empty_anchor, new_line, break, step, item, release, spacing, broken, ignored}
 use Rattle.lines.specs.declared.LineState as L
-use Rattle.lines.specs.declared.Waiting as W
+use Rattle.lines.specs.declared.Break as B
 use Rattle.lines.specs.declared.Machine as M
 use Rattle.lines.specs.declared.Stepped.{Stepped}
 use Rattle.lines.specs.declared.LineOp as O
@@ -27,16 +28,6 @@ unfolding waiting_numbered
 newline_said zero z o = absurd (z refl)
 newline_said (suc zero) z o = absurd (o refl)
 newline_said (suc (suc m)) z o = refl
-
-pub strict_said : (m : ℕ) → (m ≡ 0 → ⊥) → (m ≡ 1 → ⊥) → F.TheVariants.Strict ≡ form_numbered m
-unfolding form_numbered
-strict_said zero z o = absurd (z refl)
-strict_said (suc zero) z o = absurd (o refl)
-strict_said (suc (suc m)) z o = refl
-
-pub plain_said : (n : ℕ) → eqb ((n / 65536) % 4) 0 ≡ true → form_in n ≡ F.TheVariants.Plain
-unfolding form_in form_numbered
-plain_said n e = ap form_numbered (eqb→eq ((n / 65536) % 4) 0 (rw e tt))
 
 -- ---- put together
 
@@ -78,7 +69,7 @@ levels_numbered (suc (suc k)) = omega arith
 
 -- ---- the machine taken out: its line fits into a number again
 
-pub machine_said : (n : ℕ) (l : L.LineState) (w : W.Waiting) → line_of l ≡ line_numbered (n / 1048576) → waiting_of w ≡ waiting_numbered ((n / 262144) % 4)
+pub machine_said : (n : ℕ) (l : L.LineState) (w : Held B.Break) → line_of l ≡ line_numbered (n / 1048576) → waiting_of w ≡ waiting_numbered ((n / 262144) % 4)
     → n < 2 ^ 64 → (machine_of (record { indent = n % 65536; line = l; waiting = w }) ≡ machine_in n) × Fits (line_of l)
 unfolding machine_of machine_in
 machine_said n l w e f h =

@@ -1,6 +1,6 @@
 -- The lines of a text: the first, and the loop over the later ones.
 use Rattle.std.specs.Prelude.{if◌then◌else◌}
-use Rattle.rules.proofs.Basics.{◌≡◌, refl, sym, ap, ◌∙◌, List, [], ◌∷◌, ◌++◌, append-nil, append_assoc, Bool, true, false, ℕ, ◌+◌, ◌-◌, ◌<◌, ◌≤◌, arith, add-one, length, take, drop, length-drop, length-take, drop_of_length-le, drop-cons, drop-drop, take_all}
+use Rattle.rules.proofs.Basics.{◌≡◌, refl, sym, ap, ◌∙◌, List, [], ◌∷◌, ◌++◌, append-nil, append_assoc, Bool, true, false, ℕ, ◌≤◌, arith, length, take, drop, length-take}
 use Rattle.rules.specs.Bytes.{newline}
 use Rattle.rules.specs.Layout.{parts}
 use Rattle.rules.specs.Lines.{part, new_line, later, text_ops}
@@ -39,72 +39,53 @@ first_within v = omega (arith, ap length (first_line v).0, length-take (length (
 pub first_ends : (v : List ℕ) {n : ℕ} → n ≡ first_long v → n ≤ length v
 first_ends v e = rw e (first_within v)
 
-pub first_taken : (v : List ℕ) {n : ℕ} → n ≡ first_long v → n ≡ length (take n v)
-first_taken v {n} e = omega (arith, first_ends v e, length-take n v)
-
--- behind the byte at `at`
-next_ends : (v : List ℕ) (at : ℕ) {n : ℕ} → at < length v → n ≡ first_long (take (length v - (at + 1)) (drop (at + 1) v)) → at + 1 + n ≤ length v
-next_ends v at h e =
-    let s : List ℕ = drop (at + 1) v in
-    omega (arith, first_ends (take (length v - (at + 1)) s) e, length-take (length v - (at + 1)) s, length-drop (at + 1) v)
-
 -- ---- the later lines
 
--- at a newline
-behind : (v : List ℕ) (at : ℕ) → at < length v → later_in (drop at v) ≡ new_line ∷ text_ops newline (drop (at + 1) v)
+no_later : (v : List ℕ) → length v ≡ 0 → later_in v ≡ []
 unfolding later_in
-behind v at h = rw (drop-cons v at 0 h, ← (add-one at)) refl
+no_later [] e = refl
+no_later (x ∷ v) e = absurd (omega arith)
 
--- the code's slice behind it is all that is left
-rest : (v : List ℕ) (at : ℕ) → take (length v - (at + 1)) (drop (at + 1) v) ≡ drop (at + 1) v
-rest v at = take_all (length v - (at + 1)) (drop (at + 1) v) (omega (arith, length-drop (at + 1) v))
+module _ {p : Pen} where
+  pub none_later : (v : List ℕ) → length v ≡ 0 → Rendered (later_in v) p p
+  none_later v e = by nothing (sym (no_later v e))
 
-module _ (v : List ℕ) (at : ℕ) {p : Pen} {page : List ℕ} where
-  pub none_later : length v ≤ at → Rendered (later_in (drop at v)) p page p page
+  pub one_later : {v w : List ℕ} {x : ℕ} {p' : Pen} → v ≡ x ∷ w → Rendered (new_line ∷ text_ops newline w) p p' → Rendered (later_in v) p p'
   unfolding later_in
-  none_later h = by nothing (sym (rw (drop_of_length-le v h)))
+  one_later e f = rw e f
 
-  pub one_later : {p' : Pen} {page' : List ℕ} → at < length v → Rendered (new_line ∷ text_ops newline (take (length v - (at + 1)) (drop (at + 1) v))) p page p' page' → Rendered (later_in (drop at v)) p page p' page'
-  one_later h f = by f (sym (behind v at h ∙ ap (λ (s : List ℕ). new_line ∷ text_ops newline s) (sym (rest v at))))
-
-pub first_and_later : (v : List ℕ) {n : ℕ} {p p₁ p₂ : Pen} {page page₁ page₂ : List ℕ} → n ≡ first_long v → Interpreted Op.AppendToLine (take n v) p page p₁ page₁
-    → Rendered (later_in (drop n v)) p₁ page₁ p₂ page₂ → Rendered (text_ops newline v) p page p₂ page₂
+pub first_and_later : (v : List ℕ) {a b : List ℕ} {n : ℕ} {p p₁ p₂ : Pen} → n ≡ first_long v → a ≡ take n v → b ≡ drop n v
+    → Interpreted Op.AppendToLine a p p₁ → Rendered (later_in b) p₁ p₂ → Rendered (text_ops newline v) p p₂
 unfolding operation
-first_and_later v {n} e f g = by (and_then (quietly f tt) g) (sym (text_line v n e))
+first_and_later v {n = n} e q r f g = by (and_then (quietly (rw q at f) tt) (rw r at g)) (sym (text_line v n e))
 
 -- ---- the loop over them
 
--- it has come from at₀ to `at`: the lines between have run
-pub record LinesDone (v : List ℕ) (at₀ : ℕ) (p₀ : Pen) (page₀ : List ℕ) (at : ℕ) (p : Pen) (page : List ℕ) : Type 0 where
+-- it has come from the lines vs to those of v: the lines between have run
+pub record LinesDone (vs : List ℕ) (p₀ : Pen) (v : List ℕ) (p : Pen) : Type 0 where
   pub done : Ops
-  pub left : later_in (drop at₀ v) ≡ done ++ later_in (drop at v)
-  pub rendered : Rendered done p₀ page₀ p page
+  pub left : later_in vs ≡ done ++ later_in v
+  pub rendered : Rendered done p₀ p
 
-pub lines_start : {v : List ℕ} {at : ℕ} {p : Pen} {page : List ℕ} → LinesDone v at p page at p page
+pub lines_start : {v : List ℕ} {p : Pen} → LinesDone v p v p
 lines_start = record { done = []; left = refl; rendered = nothing }
 
 -- behind a newline: a new line, and the line there
-line_behind : (v : List ℕ) (at n : ℕ) → at < length v → n ≡ first_long (drop (at + 1) v)
-    → later_in (drop at v) ≡ new_line ∷ part (take n (drop (at + 1) v)) ∷ later_in (drop (at + 1 + n) v)
-line_behind v at n h e = behind v at h ∙ ap (λ (os : Ops). new_line ∷ os) (text_line (drop (at + 1) v) n e ∙ ap (λ (s : List ℕ). part (take n (drop (at + 1) v)) ∷ later_in s) (drop-drop n (at + 1) v))
+line_behind : (v w : List ℕ) (x n : ℕ) → v ≡ x ∷ w → n ≡ first_long w → later_in v ≡ new_line ∷ part (take n w) ∷ later_in (drop n w)
+unfolding later_in
+line_behind v w x n q e = rw q (ap (λ (os : Ops). new_line ∷ os) (text_line w n e))
 
-module _ {v : List ℕ} {at₀ : ℕ} {p₀ : Pen} {page₀ : List ℕ} {at : ℕ} {p : Pen} {page : List ℕ} (l : LinesDone v at₀ p₀ page₀ at p page) where
-  pub next_within : {n : ℕ} → at < length v → n ≡ first_long (take (length v - (at + 1)) (drop (at + 1) v)) → at + 1 + n ≤ length v
-  next_within h e = omega (arith, first_ends (drop (at + 1) v) (e ∙ ap first_long (rest v at)), length-drop (at + 1) v)
-
-  pub lines_more : {n : ℕ} {w : List ℕ} {p₁ p₂ : Pen} {page₁ page₂ : List ℕ} → at < length v → n ≡ first_long (take (length v - (at + 1)) (drop (at + 1) v))
-      → Interpreted Op.StartNewLine w p page p₁ page₁ → Interpreted Op.AppendToLine (take (at + 1 + n - (at + 1)) (drop (at + 1) v)) p₁ page₁ p₂ page₂
-      → LinesDone v at₀ p₀ page₀ (at + 1 + n) p₂ page₂
+module _ {vs : List ℕ} {p₀ : Pen} {v : List ℕ} {p : Pen} (l : LinesDone vs p₀ v p) where
+  pub lines_more : {w a b u : List ℕ} {x n : ℕ} {p₁ p₂ : Pen} → v ≡ x ∷ w → n ≡ first_long w → a ≡ take n w → b ≡ drop n w
+      → Interpreted Op.StartNewLine u p p₁ → Interpreted Op.AppendToLine a p₁ p₂ → LinesDone vs p₀ b p₂
   unfolding operation
-  lines_more {n} h e f g =
-      let k : at + 1 + n - (at + 1) ≡ n = omega arith in
-      let os : Ops = new_line ∷ part (take n (drop (at + 1) v)) ∷ [] in
+  lines_more {w} {b = b} {x = x} {n} q e ea eb f g =
+      let os : Ops = new_line ∷ part (take n w) ∷ [] in
       record {
         done = l.done ++ os;
-        left = l.left ∙ ap (λ (os : Ops). l.done ++ os) (line_behind v at n h (e ∙ ap first_long (rest v at))) ∙ sym (append_assoc l.done os (later_in (drop (at + 1 + n) v)));
-        rendered = and_then l.rendered (and_then (quietly f tt) (quietly (rw k at g) tt));
+        left = l.left ∙ ap (λ (os : Ops). l.done ++ os) (line_behind v w x n q e ∙ (λ i. new_line ∷ part (take n w) ∷ later_in (sym eb i))) ∙ sym (append_assoc l.done os (later_in b));
+        rendered = and_then l.rendered (and_then (quietly f tt) (quietly (rw ea at g) tt));
       }
 
-  pub lines_end : length v ≤ at → Rendered (later_in (drop at₀ v)) p₀ page₀ p page
-  unfolding later_in
-  lines_end h = by l.rendered (sym (l.left ∙ rw (drop_of_length-le v h, append-nil l.done)))
+  pub lines_end : length v ≡ 0 → Rendered (later_in vs) p₀ p
+  lines_end e = by l.rendered (sym (l.left ∙ ap (λ (os : Ops). l.done ++ os) (no_later v e) ∙ append-nil l.done))

@@ -5,7 +5,8 @@ use Rattle.rules.specs.Bytes.{newline}
 use Rattle.rules.specs.Layout.{parts}
 use Rattle.rules.specs.Lines.{part, new_line, later, text_ops, Line, empty, has_text, Machine, start, Item, making, release, spacing, levels, target, item, step, run, after}
 use Rattle.rules.specs.Plain.{chars, fill}
-use Rattle.writing.specs.Written.{Written}
+use Rattle.writing.specs.declared.Page.{Page}
+use Rattle.writing.specs.Written.{Put}
 use Rattle.writing.proofs.Laws as writing
 use Rattle.lines.specs.Said.{copies}
 use Rattle.pens.specs.Ops.{Ops}
@@ -106,8 +107,8 @@ margin_says n e =
     let f : (n / 65536) % 4 ≡ 0 = omega (arith, q) in
     (omega (arith, q), rw f refl)
 
-pub verbatim : (v : List ℕ) {p p' : Pen} {page page₁ page' : List ℕ} {b : ℕ} → at_margin p.state ≡ true → Written page p.at (10 ∷ []) page₁ b
-    → Written page₁ b v page' p'.at → Leaves p'.state v → Rendered (new_line ∷ text_ops newline v) p page p' page'
+pub verbatim : (v : List ℕ) {p p' : Pen} {q : Page} → at_margin p.state ≡ true → Put p.page (10 ∷ []) q
+    → Put q v p'.page → Leaves p'.state v → Rendered (new_line ∷ text_ops newline v) p p'
 unfolding after run step making shown chars fill indent_of start line_at
 verbatim v {p} e w w' (m', f') =
     let (l, f) = margin_says p.state e in
@@ -115,7 +116,7 @@ verbatim v {p} e w w' (m', f') =
     record {
       ran = record {
         machine_then = m' ∙ sym (ap (λ n. after (from n) (text_ops newline v)) l);
-        written = rw (f, l, (as_it_stands false v).1) (writing.then w w');
+        put = rw (f, l, (as_it_stands false v).1) (writing.put_then w w');
         form_kept = f' ∙ sym f;
       };
       indent_kept = ap (λ (m : Machine). m.level) (m' ∙ (as_it_stands false v).0) ∙ sym l;

@@ -4,7 +4,7 @@ use Rattle.rules.specs.Lines.{Machine, Item, run, after}
 use Rattle.rules.specs.Plain.{chars, fill}
 use Rattle.rules.specs.Html.{escape, strict_escape, items_html}
 use Rattle.rules.specs.Answers.{itself}
-use Rattle.writing.specs.Written.{Written}
+use Rattle.writing.specs.Written.{Put}
 use Rattle.lines.specs.Said.{operation}
 use Rattle.lines.specs.declared.LineOp.{LineOp}
 use Rattle.lines.specs.declared.LineOp.TheVariants as O
@@ -28,10 +28,10 @@ form p = form_in p.state
 unfoldable pub indent_of : Code.Pen → ℕ
 indent_of p = (machine p).level
 
--- the pen p on a page has run the operations, and is p' on page'
-pub record Ran (os : Ops) (p : Code.Pen) (page : List ℕ) (p' : Code.Pen) (page' : List ℕ) : Type 0 where
+-- the pen p has run the operations, and is p'
+pub record Ran (os : Ops) (p p' : Code.Pen) : Type 0 where
   pub machine_then : machine p' ≡ after (machine p) os
-  pub written : Written page p.at (shown (form p) (run (machine p) os)) page' p'.at
+  pub put : Put p.page (shown (form p) (run (machine p) os)) p'.page
   pub form_kept : form p' ≡ form p
 
 -- the operations that open or close a style or an anchor
@@ -48,10 +48,10 @@ IsMark O.StartNewLine = ⊥
 IsMark (O.BreakIfWithinLine b) = ⊥
 
 -- it has run the one operation of the code with the bytes beside it
-pub record Interpreted (op : LineOp) (v : List ℕ) (p : Code.Pen) (page : List ℕ) (p' : Code.Pen) (page' : List ℕ) : Type 0 where
-  pub ran : Ran (operation op v ∷ []) p page p' page'
+pub record Interpreted (op : LineOp) (v : List ℕ) (p p' : Code.Pen) : Type 0 where
+  pub ran : Ran (operation op v ∷ []) p p'
 
 -- it has run the operations, and its indent is what it was
-pub record Rendered (os : Ops) (p : Code.Pen) (page : List ℕ) (p' : Code.Pen) (page' : List ℕ) : Type 0 where
-  pub ran : Ran os p page p' page'
+pub record Rendered (os : Ops) (p p' : Code.Pen) : Type 0 where
+  pub ran : Ran os p p'
   pub indent_kept : indent_of p' ≡ indent_of p

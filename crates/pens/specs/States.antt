@@ -14,12 +14,6 @@ waiting_numbered zero = none
 waiting_numbered (suc zero) = some rules.a_space
 waiting_numbered (suc (suc k)) = some rules.a_newline
 
--- the break that waits there
-unfoldable pub break_numbered : ℕ → rules.Break
-break_numbered zero = rules.a_space
-break_numbered (suc zero) = rules.a_space
-break_numbered (suc (suc k)) = rules.a_newline
-
 unfoldable pub form_numbered : ℕ → F.Form
 form_numbered zero = F.TheVariants.Plain
 form_numbered (suc zero) = F.TheVariants.Html

@@ -1,5 +1,5 @@
 // The bytes of a text: its first line, then the later ones, one by one or as they stand.
-ghost use Rattle.std.specs.Prelude.{◌≡◌, true, ◌∷◌, ◌<◌, ◌^◌, drop};
+ghost use Rattle.std.specs.Prelude.{◌≡◌, true, ◌∷◌, ◌<◌, ◌^◌};
 ghost use Rattle.rules.specs.Bytes.{newline};
 ghost use Rattle.rules.specs.Lines.{new_line, text_ops};
 ghost use Rattle.pens.specs.Ops.{later_in};
@@ -9,57 +9,49 @@ ghost use Rattle.pens.specs.States.{at_margin};
 use crate::pen::{Pen, begin_line, interpret_part, line_part};
 use crate::state::{plain_at_margin, state_behind};
 use texts::first_line_end;
-use writing::{put, put_bytes};
 
 // At the margin of a plain page: a new line and the text on it. No line is indented there, so the text is written as it stands.
-fn put_verbatim(page: &mut [u8], pen: Pen, v: &[u8]) -> Pen
-    requires { at_margin pen.state ≡ true }
-    ensures { Rendered (new_line ∷ text_ops newline v.now) pen page.old result page.new }
+fn put_verbatim(pen: &mut Pen<'_>, v: &[u8])
+    requires { at_margin pen.old.state ≡ true }
+    ensures { Rendered (new_line ∷ text_ops newline v.now) pen.old pen.new }
 {
-    let from = put(page, pen.at, b'\n');
-    let at = put_bytes(page, from, v);
-    Pen {
-        at,
-        state: state_behind(v),
-    }
+    pen.page.put(b'\n');
+    pen.page.put_bytes(v);
+    pen.state = state_behind(v);
 }
 
-// The lines of a text behind the one that ends at `end`: for each a new line and the part on it.
-fn render_lines(v: &[u8], end: usize, page: &mut [u8], pen: Pen) -> Pen
-    ensures { Rendered (later_in (drop end v.now)) pen page.old result page.new }
+// The lines of a text behind its first: for each a new line and the part on it. What is left begins with a newline.
+fn render_lines(later: &[u8], pen: &mut Pen<'_>)
+    ensures { Rendered (later_in later.now) pen.old pen.new }
 {
-    let mut at = end;
-    let mut p = pen;
-    while at < v.len() {
-        let from = at + 1;
-        let to = from + first_line_end(&v[from..]);
-        p = begin_line(page, p);
-        p = line_part(page, p, &v[from..to]);
-        at = to;
+    let mut rest = later;
+    while let Some((_, text)) = rest.split_first() {
+        let (line, behind) = text.split_at(first_line_end(text));
+        begin_line(pen);
+        line_part(pen, line);
+        rest = behind;
     }
-    p
 }
 
 // The same lines, at the margin of a plain page all at once.
-fn render_later(v: &[u8], end: usize, page: &mut [u8], pen: Pen) -> Pen
-    ensures { Rendered (later_in (drop end v.now)) pen page.old result page.new }
+fn render_later(later: &[u8], pen: &mut Pen<'_>)
+    ensures { Rendered (later_in later.now) pen.old pen.new }
 {
-    if v.len() <= end {
-        return pen;
-    }
+    let Some((_, text)) = later.split_first() else {
+        return;
+    };
     if plain_at_margin(pen.state) {
-        let from = end + 1;
-        return put_verbatim(page, pen, &v[from..]);
+        return put_verbatim(pen, text);
     }
-    render_lines(v, end, page, pen)
+    render_lines(later, pen);
 }
 
 // The bytes of a text: the part before the first newline, then the later lines.
-pub fn render_bytes(v: &[u8], page: &mut [u8], pen: Pen) -> Pen
-    requires { indent_of pen < 2 ^ 15 }
-    ensures { Rendered (text_ops newline v.now) pen page.old result page.new }
+pub fn render_bytes(v: &[u8], pen: &mut Pen<'_>)
+    requires { indent_of pen.old < 2 ^ 15 }
+    ensures { Rendered (text_ops newline v.now) pen.old pen.new }
 {
-    let end = first_line_end(v);
-    let p = interpret_part(page, pen, &v[..end]);
-    render_later(v, end, page, p)
+    let (first, later) = v.split_at(first_line_end(v));
+    interpret_part(pen, first);
+    render_later(later, pen);
 }

@@ -1,21 +1,19 @@
 // A pen's state in one number: the line machine and the form. A pen is handed on at every node, and two numbers are handed on faster than a
 // struct with structs in it.
+
+#![tactic(auto, unfolding(crate::specs::States::line_numbered, crate::specs::States::waiting_numbered, crate::specs::States::form_numbered, crate::specs::States::machine_in, crate::specs::States::form_in, crate::specs::States::quiet, crate::specs::States::at_margin, crate::specs::States::line_then, rules::specs::Lines::release, lines::specs::Said::line_of, lines::specs::Said::waiting_of, lines::specs::Said::break_of, lines::specs::Said::machine_of))]
+
 ghost use Rattle.std.specs.Prelude.{◌≡◌, true, ◌<◌, ◌^◌};
 ghost use Rattle.rules.specs.Bytes.{newline};
 ghost use Rattle.rules.specs.Lines.{text_ops, start, after, break, ignored, indent, unindent};
-ghost use Rattle.lines.specs.Said.{line_of, waiting_of, machine_of};
-ghost use Rattle.pens.specs.States.{line_numbered, waiting_numbered, form_numbered, break_numbered, machine_in, form_in, quiet, at_margin, Fits, Unseen, line_then, line_ready, on_line};
+ghost use Rattle.lines.specs.Said.{break_of, line_of, waiting_of, machine_of};
+ghost use Rattle.pens.specs.States.{line_numbered, waiting_numbered, form_numbered, machine_in, form_in, quiet, at_margin, Fits, Unseen, line_then, line_ready, on_line};
 ghost use Rattle.pens.specs.declared.state.Form.TheVariants as Form;
 
-use lines::{LineState, Machine, Waiting};
-
-// The breaks, as they wait.
-pub const SPACE: usize = 1;
-
-pub const NEWLINE: usize = 2;
+use lines::{Break, LineState, Machine};
 
 // How items are shown: texts alone, or texts escaped and marks as tags; in strict mode a CR is escaped too.
-#[derive(Clone, Copy, Drop)]
+#[derive(Debug, Clone, Copy, PartialEq, Eq)]
 pub enum Form {
     Plain,
     Html,
@@ -34,28 +32,36 @@ pub const EMPTY: usize = 0;
 
 pub const TEXT: usize = 1;
 
+// The numbers of the breaks that wait; 0 says that none does.
+pub const SPACE: usize = 1;
+
+pub const NEWLINE: usize = 2;
+
 fn line_numbered(n: usize) -> LineState
     ensures { line_of result ≡ line_numbered n }
 {
-    if n == 0 {
-        return LineState::Empty;
+    match n {
+        EMPTY => LineState::Empty,
+        TEXT => LineState::HasText,
+        _ => LineState::Indented(n - 2),
     }
-    if n == 1 {
-        return LineState::HasText;
-    }
-    LineState::Indented(n - 2)
 }
 
-fn waiting_numbered(n: usize) -> Waiting
+fn waiting_numbered(n: usize) -> Option<Break>
     ensures { waiting_of result ≡ waiting_numbered n }
 {
-    if n == 0 {
-        return Waiting::Nothing;
+    match n {
+        0 => None,
+        SPACE => Some(Break::Space),
+        _ => Some(Break::NewLine),
     }
-    if n == 1 {
-        return Waiting::Space;
-    }
-    Waiting::NewLine
+}
+
+// The break that waits.
+pub(crate) fn waiting_in(state: usize) -> Option<Break>
+    ensures { waiting_of result ≡ (machine_in state).waiting }
+{
+    waiting_numbered(state / WAITING % 4)
 }
 
 pub fn machine_in(state: usize) -> Machine
@@ -64,28 +70,25 @@ pub fn machine_in(state: usize) -> Machine
     Machine {
         indent: state % FORM,
         line: line_numbered(state / LINE),
-        waiting: waiting_numbered(state / WAITING % 4),
+        waiting: waiting_in(state),
     }
 }
 
 pub fn form_in(state: usize) -> Form
     ensures { result ≡ form_in state }
 {
-    let form = state / FORM % 4;
-    if form == 0 {
-        return Form::Plain;
+    match state / FORM % 4 {
+        0 => Form::Plain,
+        1 => Form::Html,
+        _ => Form::Strict,
     }
-    if form == 1 {
-        return Form::Html;
-    }
-    Form::Strict
 }
 
 // The form is the plain one.
 pub fn is_plain(state: usize) -> bool
     ensures { result ≡ true → form_in state ≡ Form.Plain }
 {
-    state / FORM % 4 == 0
+    form_in(state) == Form::Plain
 }
 
 fn line_number(line: LineState) -> usize
@@ -93,22 +96,23 @@ fn line_number(line: LineState) -> usize
     ensures { (line_numbered result ≡ line_of line) × (result < 2 ^ 44) }
 {
     match line {
-        LineState::Empty => 0,
+        LineState::Empty => EMPTY,
         LineState::Indented(k) => k + 2,
-        LineState::HasText => 1,
+        LineState::HasText => TEXT,
     }
 }
 
-fn waiting_number(waiting: Waiting) -> usize
+fn waiting_number(waiting: Option<Break>) -> usize
     ensures { (waiting_numbered result ≡ waiting_of waiting) × (result < 3) }
 {
     match waiting {
-        Waiting::Nothing => 0,
-        Waiting::Space => 1,
-        Waiting::NewLine => 2,
+        None => 0,
+        Some(Break::Space) => SPACE,
+        Some(Break::NewLine) => NEWLINE,
     }
 }
 
+// A match: what `form as usize` says is said in names of the checker's own, and the proof didn't close over them.
 fn form_number(form: Form) -> usize
     ensures { (form_numbered result ≡ form) × (result < 3) }
 {
@@ -123,10 +127,8 @@ pub fn state_of(m: Machine, form: Form) -> usize
     requires { (m.indent < 2 ^ 16) × Fits (line_of m.line) }
     ensures { (machine_in result ≡ machine_of m) × (form_in result ≡ form) }
 {
-    let line = m.line;
-    let waiting = m.waiting;
-    line_number(line) * LINE
-        + waiting_number(waiting) * WAITING
+    line_number(m.line) * LINE
+        + waiting_number(m.waiting) * WAITING
         + form_number(form) * FORM
         + m.indent
 }
@@ -149,14 +151,10 @@ pub fn plain_at_margin(state: usize) -> bool
 pub fn state_behind(v: &[u8]) -> usize
     ensures { (machine_in result ≡ after start (text_ops newline v.now)) × (form_in result ≡ Form.Plain) }
 {
-    if v.len() == 0 {
-        return 0;
+    match v {
+        [] => 0,
+        [.., last] => { if *last == b'\n' { 0 } else { LINE } }
     }
-    let last = v.len() - 1;
-    if v[last] == b'\n' {
-        return 0;
-    }
-    LINE
 }
 
 // A break does not count on an empty line, nor on one with no more levels than the indent.
@@ -164,25 +162,18 @@ fn ignores(state: usize) -> bool
     ensures { result ≡ ignored (machine_in state).level (machine_in state).line }
 {
     let line = state / LINE;
-    if line == 1 {
-        return false;
-    }
-    line <= state % FORM + 2
+    line != TEXT && line <= state % FORM + 2
 }
 
 // A break waits, unless one waits that is as much.
-pub fn broken(state: usize, b: usize) -> usize
-    requires { (0 < b) × (b < 3) }
-    ensures { Unseen (break (break_numbered b)) state result }
+pub fn broken(state: usize, b: Break) -> usize
+    ensures { Unseen (break (break_of b)) state result }
 {
     if ignores(state) {
         return state;
     }
-    let waiting = state / WAITING % 4;
-    if waiting < b {
-        return state + (b - waiting) * WAITING;
-    }
-    state
+    let more = waiting_number(Some(b)).saturating_sub(state / WAITING % 4);
+    state + more * WAITING
 }
 
 // The indent is one level deeper.
@@ -205,10 +196,10 @@ pub fn less_deep(state: usize) -> usize
 pub fn line_then(state: usize) -> usize
     ensures { line_numbered result ≡ line_then (machine_in state) }
 {
-    if 1 < state / WAITING % 4 {
-        return 0;
+    match waiting_in(state) {
+        Some(Break::NewLine) => EMPTY,
+        _ => state / LINE,
     }
-    state / LINE
 }
 
 // The line's number before a part or a mark: it has text, or is brought to the indent.
@@ -216,9 +207,10 @@ pub fn line_ready(state: usize) -> usize
     ensures { (line_numbered result ≡ line_ready (machine_in state)) × (result < 2 ^ 32) }
 {
     if line_then(state) == TEXT {
-        return TEXT;
+        TEXT
+    } else {
+        state % FORM + 2
     }
-    state % FORM + 2
 }
 
 // The state on a line of another number, where no break waits.

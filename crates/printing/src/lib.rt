@@ -3,14 +3,13 @@
 
 #![tactic(auto)]
 
-ghost use Rattle.std.specs.Prelude.{◌≡◌};
+ghost use Rattle.std.specs.Prelude.{◌≡◌, ◌≤◌, length};
 ghost use Rattle.printing.specs.Shown.{Shown};
-ghost use Rattle.printing.specs.Asked.{with_page, with_mask, laid_at, asked, plainly_asked};
+ghost use Rattle.printing.specs.Asked.{width_in, with_page, with_mask, laid_at, asked, plainly_asked};
 
-use fields::wide;
 use hazomeny::{check_file_strict, html_document, html_document_strict, layout_file, mask_file};
 use prints::print_at;
-use rules::{Answer, MOST_BYTES, Refusal};
+use rules::{MOST_BYTES, Refusal};
 use std::io;
 use telling::{end_line, tell_refusal};
 
@@ -20,8 +19,8 @@ pub const FILE: usize = MOST_BYTES + 1;
 // The same behind two bytes of width.
 pub const INPUT: usize = 2 + FILE;
 
-// What is printed of the file.
-#[derive(Drop)]
+// What is printed of the file. No closure in its place: the contracts name the page by it, and a refusal asks it too.
+#[derive(Debug, Clone, Copy, PartialEq, Eq)]
 pub enum Wanted {
     Document,
     StrictDocument,
@@ -33,13 +32,21 @@ fn refuse(rt: &impl Print, r: Refusal) -> io::Result<()> {
 }
 
 // The bytes of the page that the answer counts.
-fn print_answer(rt: &impl Print, page: &[u8], a: Answer) -> io::Result<()>
+fn print_answer(rt: &impl Print, page: &[u8], a: Result<usize, Refusal>) -> io::Result<()>
     requires { Shown a page.now }
 {
     match a {
-        Answer::Done(n) => rt.write_all(&page[..n]),
-        Answer::Refused(r) => refuse(rt, r),
+        Ok(n) => rt.write_all(&page[..n]),
+        Err(r) => refuse(rt, r),
     }
+}
+
+// The two bytes before a file.
+fn width_in(input: &[u8]) -> usize
+    requires { 2 ≤ length input.now }
+    ensures { result ≡ width_in input.now }
+{
+    usize::from(u16::from_be_bytes([input[0], input[1]]))
 }
 
 fn print_page(rt: &impl Print, wanted: Wanted, file: &[u8], page: &mut [u8]) -> io::Result<()>
@@ -57,23 +64,13 @@ fn print_page(rt: &impl Print, wanted: Wanted, file: &[u8], page: &mut [u8]) -> 
     }
 }
 
-// A file that layout refuses in the walk may have a NUL in a text before that fault, which strict mode refuses first.
-fn refuse_strictly(rt: &impl Print, file: &[u8], r: Refusal) -> io::Result<()> {
-    match check_file_strict(file) {
-        Answer::Done(n) => refuse(rt, r),
-        Answer::Refused(first) => refuse(rt, first),
+// The refusal of a file that was not laid out. Where layout refuses it in the walk, it may have a NUL in a text before that fault, which strict mode
+// refuses first.
+fn first_refusal(wanted: Wanted, file: &[u8], r: Refusal) -> Refusal {
+    if wanted == Wanted::Document || r == Refusal::TooWide {
+        return r;
     }
-}
-
-// The refusal of a file that was not laid out.
-fn refuse_layout(rt: &impl Print, wanted: Wanted, file: &[u8], r: Refusal) -> io::Result<()> {
-    match r {
-        Refusal::TooWide => refuse(rt, r),
-        _ => match wanted {
-            Wanted::Document => refuse(rt, r),
-            Wanted::StrictDocument => refuse_strictly(rt, file, r),
-        },
-    }
+    check_file_strict(file).err().unwrap_or(r)
 }
 
 // The file laid out at the width, then its page. Places count from the file's start.
@@ -87,8 +84,8 @@ fn lay_out_and_print(
     ensures { (file.new, page.new) ≡ laid_at wanted width file.old page.old }
 {
     match layout_file(file, width) {
-        Answer::Done(n) => print_page(rt, wanted, file, page),
-        Answer::Refused(r) => refuse_layout(rt, wanted, file, r),
+        Ok(_) => print_page(rt, wanted, file, page),
+        Err(r) => refuse(rt, first_refusal(wanted, file, r)),
     }
 }
 
@@ -104,7 +101,7 @@ pub fn print_asked(
     if input.len() < 2 {
         return refuse(rt, Refusal::Cut(0));
     }
-    let width = wide(input[0]) * 256 + wide(input[1]);
+    let width = width_in(input);
     lay_out_and_print(rt, wanted, &mut input[2..], width, page)
 }
 
@@ -115,8 +112,7 @@ pub fn print_plain(rt: &impl Print, input: &[u8], page: &mut [u8]) -> io::Result
     if input.len() < 2 {
         return refuse(rt, Refusal::Cut(0));
     }
-    let width = wide(input[0]) * 256 + wide(input[1]);
-    let a = print_at(&input[2..], width, page);
+    let a = print_at(&input[2..], width_in(input), page);
     print_answer(rt, page, a)
 }
 
@@ -126,4 +122,19 @@ pub fn print_mask(rt: &impl Print, file: &[u8], page: &mut [u8]) -> io::Result<(
 {
     let a = mask_file(file, page);
     print_answer(rt, page, a)
+}
+
+// Room for a document of 4 MiB, about twice the longest that a file can have.
+pub const ROOM: usize = 4194304;
+
+// The same as `print_asked`. The page is passed as an array, so that a program's proof takes its length from its type.
+pub fn print_on(
+    rt: &impl Print,
+    wanted: Wanted,
+    input: &mut [u8],
+    page: &mut [u8; ROOM],
+) -> io::Result<()>
+    ensures { (input.new, page.new) ≡ asked wanted input.old page.old }
+{
+    print_asked(rt, wanted, input, page)
 }

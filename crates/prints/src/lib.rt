@@ -7,23 +7,24 @@ ghost use Rattle.rules.specs.Result.{said};
 ghost use Rattle.rules.specs.Prints.{print_outcome};
 
 use laying::answer::BAD;
+use laying::marks::WORDS;
 use laying::whole::first_walk;
 use pages::frame::Kind;
 use pages::whole::render_shown;
-use rules::{Answer, MOST_BYTES, MOST_COLUMNS, Refusal};
+use rules::{MOST_BYTES, MOST_COLUMNS, Refusal};
 use verify::walk::check;
 
 // Answers the page's length, and writes the plain page of the file laid out at the width from the page's start; a refusal changes no byte.
-pub fn print_at(file: &[u8], width: usize, page: &mut [u8]) -> Answer
+pub fn print_at(file: &[u8], width: usize, page: &mut [u8]) -> Result<usize, Refusal>
     ensures { (said result, page.new) ≡ print_outcome width file.now page.old }
 {
     if MOST_BYTES < file.len() {
-        return Answer::Refused(Refusal::TooLong);
+        return Err(Refusal::TooLong);
     }
     if MOST_COLUMNS < width {
-        return Answer::Refused(Refusal::TooWide);
+        return Err(Refusal::TooWide);
     }
-    let mut bits = [0u64; 938];
+    let mut bits = [0u64; WORDS];
     if first_walk(file, width, &mut bits) == BAD {
         return check(file);
     }

@@ -1,6 +1,7 @@
 -- Texts that are done at once: by what the style says, and the tests that may miss.
 use Rattle.rules.proofs.Basics.{◌≡◌, refl, sym, ap, ◌∙◌, List, [], ◌∷◌, ◌++◌, ℕ, ◌+◌, ◌≤◌, arith, Bool, true, false, not, not-true, ltb, ltb-true, eqb, eqb-true, ne_eqb, length, get_or}
 use lib.Bits.{bit_or}
+use Rattle.std.specs.Prelude.{Some}
 use Rattle.rules.specs.Limits.{most_bytes}
 use Rattle.rules.specs.Bytes.{has}
 use Rattle.rules.specs.Encode.{field, encode_fields}
@@ -20,7 +21,7 @@ use Rattle.moves.specs.Plans.{piece_bytes, piece_checks, first_fault, sane}
 use Rattle.scribe.specs.InC.{flag, style_in}
 use Rattle.scribe.proofs.StyleLaws.{as_text, run_text, run_length}
 use Rattle.scribe.proofs.BadLaws.{good_fault, no_style_fault}
-use Rattle.scribe.proofs.CheckLaws.{style_numbered, fault_then, sound_text, sound_name}
+use Rattle.scribe.proofs.CheckLaws.{style_numbered, fault_then, none_first, sound_text, sound_name}
 use Rattle.quick.specs.Quick.{PutsText, ColourAlone}
 use Rattle.quick.proofs.PlanDone.{put_so}
 
@@ -30,10 +31,10 @@ pub plain_so : (v : List ℕ) {n : ℕ} → n ≡ all_bits v → ltb n 128 ≡ t
 plain_so v {n} e h = ascii v e (ltb-true n 128 h)
 
 pub plain_text : (v : List ℕ) → Sound ≡ utf8_answer v → first_fault (text_content v) ≡ 0
-plain_text v e = sym (sound_text v e refl)
+plain_text v e = none_first (text_content v) 0 (sound_text v 0 e refl)
 
 pub plain_name : (v : List ℕ) {q : Bool} → Sound ≡ utf8_answer v → q ≡ has 34 v → not q ≡ true → first_fault (anchor_content v) ≡ 0
-plain_name v e q h = sym (sound_name v e refl q (not-true _ h))
+plain_name v e q h = none_first (anchor_content v) 0 (sound_name v 0 (sound_text v 0 e refl) q (not-true _ h))
 
 -- ---- a text's node
 
@@ -43,7 +44,7 @@ run_sound st v s t = fault_then (style_checks (style_of st)) (text_content v) (s
 
 -- written at once
 pub run_so : (b : List ℕ) (at top : ℕ) (st : Style) (v : List ℕ) {b' : List ℕ} {r n : ℕ} → sane (length b) at top ≡ true → n ≡ style_size st → Written b at (run_bytes (run st v)) b' r
-    → (at + (6 + n + length v) ≤ most_bytes) × (at + (6 + n + length v) ≤ length b) → first_fault (style_checks (style_of st)) ≡ 0 → PutsText (record { at = r; top = top }) b b' at top st v
+    → (at + (6 + n + length v) ≤ most_bytes) × (at + (6 + n + length v) ≤ length b) → first_fault (style_checks (style_of st)) ≡ 0 → PutsText (Some (record { at = r; top = top })) b b' at top st v
 unfolding piece_bytes
 run_so b at top st v S e f (h, k) s a y t =
     let l : _ = run_length st v in
@@ -52,7 +53,7 @@ run_so b at top st v S e f (h, k) s a y t =
 -- written by its parts
 pub node_so : (b : List ℕ) (at top : ℕ) (st : Style) (v p : List ℕ) {b₁ b₂ b' : List ℕ} {a c r : ℕ} → sane (length b) at top ≡ true → Written b at (open_header 1 (length p + 3 + length v)) b₁ a → Written b₁ a p b₂ c
     → Written b₂ c (field 17 v) b' r → (at + (6 + length p + length v) ≤ most_bytes) × (at + (6 + length p + length v) ≤ length b) → style_part st ≡ p → first_fault (style_checks (style_of st)) ≡ 0
-    → PutsText (record { at = r; top = top }) b b' at top st v
+    → PutsText (Some (record { at = r; top = top })) b b' at top st v
 unfolding style_size
 node_so b at top st v p {b' = b'} {r = r} S f g h fit e s =
     let n : length p ≡ length (style_part st) = ap length (sym e) in

@@ -11,26 +11,12 @@ use scribe::put::put_field;
 use scribe::stepping::Spot;
 use utf8::all_bits;
 
-// The step is not done here.
-pub fn nowhere() -> Spot
-    ensures { result.at ≡ 0 }
-{
-    Spot { at: 0, top: 0 }
-}
-
 // So many bytes and a text of n go into the file and into the room.
 pub fn has_room(room: usize, at: usize, more: usize, n: usize) -> bool
     requires { (at ≤ 60_000) × (more ≤ 100) }
     ensures { result ≡ true → (at + (more + n) ≤ 60_000) × (at + (more + n) ≤ room) }
 {
-    if MOST_BYTES < n {
-        return false;
-    }
-    let end = at + (more + n);
-    if MOST_BYTES < end {
-        return false;
-    }
-    end <= room
+    n <= MOST_BYTES && at + (more + n) <= room.min(MOST_BYTES)
 }
 
 // Every byte is ASCII, as of most texts.
@@ -41,16 +27,13 @@ pub fn plain(v: &[u8]) -> bool
 }
 
 // A field that is a node.
-pub fn leaf(buf: &mut [u8], at: usize, top: usize, allowed: bool, tag: u8, v: &[u8]) -> Spot
+pub fn leaf(buf: &mut [u8], at: usize, top: usize, allowed: bool, tag: u8, v: &[u8]) -> Option<Spot>
     requires { sane (length buf.old) at top ≡ true }
     ensures { PutsPiece result buf.old buf.new at top allowed (field tag v.now) }
 {
-    if !allowed {
-        return nowhere();
-    }
-    if !has_room(buf.len(), at, 3, v.len()) {
-        return nowhere();
+    if !allowed || !has_room(buf.len(), at, 3, v.len()) {
+        return None;
     }
     let next = put_field(buf, at, tag, v);
-    Spot { at: next, top }
+    Some(Spot { at: next, top })
 }

@@ -7,7 +7,7 @@ ghost use Rattle.moves.specs.declared.Piece.TheVariants.{Nothing};
 ghost use Rattle.moves.specs.Plans.{first_fault, sane, shuts, opens, begins};
 ghost use Rattle.quick.specs.Quick.{Quickly, OpensNamed};
 
-use crate::adding::{has_room, nowhere, plain};
+use crate::adding::{has_room, plain};
 use rules::MOST_BLOCKS;
 use scribe::opened::close;
 use scribe::plan::ANCHOR;
@@ -19,48 +19,43 @@ use utf8::has_byte;
 fn plain_name(v: &[u8]) -> bool
     ensures { result ≡ true → first_fault (anchor_content v.now) ≡ 0 }
 {
-    if plain(v) {
-        return !has_byte(v, b'"');
-    }
-    false
+    plain(v) && !has_byte(v, b'"')
 }
 
-pub fn anchor(buf: &mut [u8], at: usize, top: usize, allowed: bool, tag: u8, v: &[u8]) -> Spot
+pub fn anchor(
+    buf: &mut [u8],
+    at: usize,
+    top: usize,
+    allowed: bool,
+    tag: u8,
+    v: &[u8],
+) -> Option<Spot>
     requires { sane (length buf.old) at top ≡ true }
     ensures { OpensNamed result buf.old buf.new at top allowed (field tag v.now) (anchor_content v.now) }
 {
-    if !allowed {
-        return nowhere();
-    }
-    if !plain_name(v) {
-        return nowhere();
-    }
-    if !has_room(buf.len(), at, 6, v.len()) {
-        return nowhere();
+    if !allowed || !plain_name(v) || !has_room(buf.len(), at, 6, v.len()) {
+        return None;
     }
     let a = put_header(buf, at, ANCHOR, top);
     let next = put_field(buf, a, tag, v);
-    Spot {
+    Some(Spot {
         at: next,
         top: at + 1,
-    }
+    })
 }
 
-pub fn open(buf: &mut [u8], at: usize, top: usize, allowed: bool, code: u8) -> Spot
+pub fn open(buf: &mut [u8], at: usize, top: usize, allowed: bool, code: u8) -> Option<Spot>
     requires { sane (length buf.old) at top ≡ true }
     ensures { (st : Style) (t : List ℕ) → Quickly result buf.old buf.new at top (opens allowed Nothing 0 code Nothing) st t }
 {
-    if !allowed {
-        return nowhere();
-    }
-    if !has_room(buf.len(), at, 3, 0) {
-        return nowhere();
+    if !allowed || !has_room(buf.len(), at, 3, 0) {
+        return None;
     }
     let next = put_header(buf, at, code, top);
-    Spot {
+    Some(Spot {
         at: next,
         top: at + 1,
-    }
+    })
 }
 
 pub fn block(
@@ -70,27 +65,24 @@ pub fn block(
     allowed: bool,
     kind: usize,
     depth: usize,
-) -> Spot
+) -> Option<Spot>
     requires top_value { sane (length buf.old) at top ≡ true }
     requires kind_bound { (kind ≤ 6) × (depth ≤ 32) }
     ensures { (st : Style) (t : List ℕ) → Quickly result buf.old buf.new at top (begins allowed Nothing kind depth) st t }
 {
     if MOST_BLOCKS <= depth {
-        return nowhere();
+        return None;
     }
     open(buf, at, top, allowed, (32 * kind + depth) as u8)
 }
 
-pub fn shut(buf: &mut [u8], at: usize, top: usize, allowed: bool) -> Spot
+pub fn shut(buf: &mut [u8], at: usize, top: usize, allowed: bool) -> Option<Spot>
     requires { sane (length buf.old) at top ≡ true }
     ensures { (st : Style) (t : List ℕ) → Quickly result buf.old buf.new at top (shuts allowed Nothing 1 Nothing) st t }
 {
-    if !allowed {
-        return nowhere();
-    }
-    if top == 0 {
-        return nowhere();
+    if !allowed || top == 0 {
+        return None;
     }
     let around = close(buf, at, top);
-    Spot { at, top: around }
+    Some(Spot { at, top: around })
 }

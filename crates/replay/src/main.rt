@@ -9,21 +9,13 @@ use hazomeny::{
     html_document_strict, layout_file, plain_page,
 };
 use intake::read_full;
-use requests::{Request, fill, request_at};
-use rules::Answer;
+use requests::{Operation, fill, request_at};
+use rules::Refusal;
 use std::io;
 use telling::{end_line, tell, tell_bytes};
 
-// By the recorded operation: 0 is the file check, 5 that of strict mode.
-fn check_by(op: u8, file: &[u8]) -> Answer {
-    match op {
-        0 => check_file(file),
-        _ => check_file_strict(file),
-    }
-}
-
-fn replay_check(rt: &impl Print, op: u8, file: &[u8]) -> io::Result<()> {
-    tell(rt, check_by(op, file))?;
+fn replay_check(rt: &impl Print, answer: Result<usize, Refusal>) -> io::Result<()> {
+    tell(rt, answer)?;
     end_line(rt)
 }
 
@@ -33,36 +25,36 @@ fn replay_layout(rt: &impl Print, file: &mut [u8], width: usize) -> io::Result<(
     end_line(rt)
 }
 
-// By the recorded operation: 2 is a plain page, 3 a body, 4 a document, 6 and 7 are these two in strict mode.
-fn page_by(op: u8, file: &[u8], page: &mut [u8]) -> Answer {
-    match op {
-        2 => plain_page(file, page),
-        3 => html_body(file, page),
-        4 => html_document(file, page),
-        6 => html_body_strict(file, page),
-        _ => html_document_strict(file, page),
-    }
-}
-
-fn replay_page(rt: &impl Print, op: u8, file: &[u8], page: &mut [u8]) -> io::Result<()> {
+fn replay_page<F: Fn(&[u8], &mut [u8]) -> Result<usize, Refusal>>(
+    rt: &impl Print,
+    entry: F,
+    file: &[u8],
+    page: &mut [u8],
+) -> io::Result<()>
+    requires { F.IsAlwaysCallable entry }
+{
     fill(page);
-    tell(rt, page_by(op, file, page))?;
+    tell(rt, entry(file, page))?;
     tell_bytes(rt, page)?;
     end_line(rt)
 }
 
 fn replay_one(
     rt: &impl Print,
-    op: u8,
+    operation: Operation,
     width: usize,
     file: &mut [u8],
     page: &mut [u8],
 ) -> io::Result<()> {
-    match op {
-        0 => replay_check(rt, op, file),
-        1 => replay_layout(rt, file, width),
-        5 => replay_check(rt, op, file),
-        _ => replay_page(rt, op, file, page),
+    match operation {
+        Operation::Check => replay_check(rt, check_file(file)),
+        Operation::Layout => replay_layout(rt, file, width),
+        Operation::Plain => replay_page(rt, plain_page, file, page),
+        Operation::Body => replay_page(rt, html_body, file, page),
+        Operation::Document => replay_page(rt, html_document, file, page),
+        Operation::StrictCheck => replay_check(rt, check_file_strict(file)),
+        Operation::StrictBody => replay_page(rt, html_body_strict, file, page),
+        Operation::StrictDocument => replay_page(rt, html_document_strict, file, page),
     }
 }
 
@@ -71,26 +63,26 @@ fn replay_at(rt: &impl Print, s: &mut [u8], at: usize, page: &mut [u8]) -> io::R
     requires { at < length s.old }
     ensures { IfOk result (λ next. (at < next) × (next ≤ length s.old)) }
 {
-    let r = request_at(s, at);
-    let Request::File {
-        op,
-        width,
-        room,
-        from,
-        to,
-    } = r
-    else {
+    let Some(r) = request_at(s, at) else {
         return Ok(s.len());
     };
-    if page.len() < room {
+    if page.len() < r.room {
         return Ok(s.len());
     }
-    replay_one(rt, op, width, &mut s[from..to], &mut page[..room])?;
-    Ok(to)
+    let file = &mut s[r.from..r.to];
+    replay_one(
+        rt,
+        Operation::from(r.op),
+        r.width,
+        file,
+        &mut page[..r.room],
+    )?;
+    Ok(r.to)
 }
 
 fn replay(rt: &impl Print, s: &mut [u8], page: &mut [u8]) -> io::Result<()> {
     let mut at = 0;
+    // No `for`: the next request stands where this one ends.
     while at < s.len() {
         at = replay_at(rt, s, at, page)?;
     }

@@ -1,6 +1,12 @@
 -- The bytes after the last newline, counted from the end, and a text by its parts.
 use Rattle.std.specs.Prelude.{if◌then◌else◌}
-use Rattle.rules.proofs.Basics.{◌≡◌, refl, sym, ap, ◌∙◌, List, [], ◌∷◌, Bool, true, false, ℕ, zero, suc, ◌+◌, ◌-◌, ◌≤◌, ◌<◌, arith, length, take, drop, get_or, drop_of_length-le, drop-cons, eq-eqb, ne_eqb}
+use Rattle.rules.proofs.Basics.{◌≡◌, refl, sym, ap, ◌∙◌, List, [], ◌∷◌, Bool, true, false, ℕ, suc, ◌+◌, ◌-◌, ◌≤◌, arith, length, take, drop, eqb, eq-eqb, ne_eqb, eqb-true, eqb-false, ltb-false}
+use Rattle.std.specs.List.{position, position_or_len}
+use Rattle.std.specs.Option.{unwrap_or}
+use Rattle.std.proofs.Common.{reverse, nat_lt, Some, None, not}
+use Rattle.std.proofs.lemmas.List.{reverse-append, length-reverse}
+use Rattle.std.proofs.lemmas.List.Folds.{position_or_len_push}
+use Rattle.std.proofs.lemmas.List.Sums.{prefix_len-le-length}
 use Rattle.rules.specs.Bytes.{newline}
 use Rattle.rules.specs.Layout.{Shape, Inline, Block, last, parts, only_if_block}
 use Rattle.looks.specs.Calm.{Lacks, Says}
@@ -52,50 +58,69 @@ last_is : (v : List ℕ) → last_from 0 v ≡ last_long v
 unfolding last_long
 last_is v = last_with 0 v ∙ with_none (parts newline v).0 (parts newline v).1
 
-either : (t : Bool) {a b m : ℕ} → a ≡ m → b ≡ m → (if t then a else b) ≡ m
-either true p q = p
-either false p q = q
+-- how far from the end the first newline stands that is met there, or all of the length
+abbrev from_end : List ℕ → ℕ
+from_end v = position_or_len (λ x. eqb x 10) (reverse v)
 
--- what stands before n does not matter where the bytes from n on make the same of any number
-from_any : (n : ℕ) (v : List ℕ) {m : ℕ} → ((k : ℕ) → last_from k (drop n v) ≡ m) → (k : ℕ) → last_from k v ≡ m
-unfolding last_from
-from_any zero v h k = h k
-from_any (suc n) [] h k = h k
-from_any (suc n) (x ∷ s) h k = either (newline x) (from_any n s h 0) (from_any n s h (suc k))
+-- k, or a where k is all of l
+unfoldable further : (a l k : ℕ) → ℕ
+further a l k = if eqb k l then a else k
 
--- the loop stands at n, and there is no newline from n on
-pub record Unbroken (v : List ℕ) (n : ℕ) : Type 0 where
-  pub inside : n ≤ length v
-  pub counted : (k : ℕ) → last_from k (drop n v) ≡ k + (length v - n)
+further_all : (a : ℕ) {l k : ℕ} → k ≡ l → further a l k ≡ a
+unfolding further
+further_all a {l} {k} e = rw (eq-eqb k l e)
 
-pub none_seen : (v : List ℕ) → Unbroken v (length v)
-unfolding last_from
-none_seen v = record {
-  inside = omega arith;
-  counted = λ k. rw (drop_of_length-le v {i = length v} (omega arith)) (omega arith);
-}
+further_not : (a : ℕ) {l k : ℕ} → (k ≡ l → ⊥) → further a l k ≡ k
+unfolding further
+further_not a {l} {k} e = rw (ne_eqb k l e)
 
-module _ {v : List ℕ} {n : ℕ} (u : Unbroken v n) (h : 0 < n) where
-  one_back : drop (n - 1) v ≡ get_or v (n - 1) 0 ∷ drop n v
-  one_back =
-      let e : suc (n - 1) ≡ n = omega arith in
-      rw e at (drop-cons v (n - 1) 0 (omega (arith, u.inside)))
+-- one byte more in front
+from_end_cons : (x : ℕ) (s : List ℕ) → from_end (x ∷ s) ≡ further (length s + (if eqb x 10 then 0 else 1)) (length s) (from_end s)
+unfolding further
+from_end_cons x s =
+    ap (position_or_len (λ x. eqb x 10)) (reverse-append (x ∷ []) s) ∙ position_or_len_push (λ x. eqb x 10) (reverse s) x
+    ∙ ap (λ (l : ℕ). if eqb (from_end s) l then l + (if eqb x 10 then 0 else 1) else from_end s) (length-reverse s)
 
-  pub newline_seen : get_or v (n - 1) 0 ≡ 10 → length v - n ≡ last_long v
-  unfolding last_from newline
-  newline_seen e = sym (from_any (n - 1) v (λ k. rw (one_back, eq-eqb (get_or v (n - 1) 0) 10 e) (omega (arith, u.counted 0))) 0) ∙ last_is v
+met_more : (newline? : Bool) (n l k : ℕ) → k ≤ l → {a b m : ℕ} → a ≡ further (0 + l) l k → b ≡ further (suc n + l) l k → m ≡ further (l + (if newline? then 0 else 1)) l k
+    → (if newline? then a else b) ≡ further (n + suc l) (suc l) m
+met_more t n l k h {a} {b} {m} p q r = go t (eqb k l) refl r
+  where
+    go : (t e : Bool) → eqb k l ≡ e → m ≡ further (l + (if t then 0 else 1)) l k → (if t then a else b) ≡ further (n + suc l) (suc l) m
+    go true true e r =
+        let z : k ≡ l = eqb-true k l e in
+        omega (arith, p, r, further_all (0 + l) z, further_all (l + 0) z, further_not (n + suc l) {l = suc l} {k = m} (λ f. omega (arith, f, r, further_all (l + 0) z)))
+    go false true e r =
+        let z : k ≡ l = eqb-true k l e in
+        omega (arith, q, further_all (suc n + l) z, further_all (n + suc l) {l = suc l} {k = m} (omega (arith, r, further_all (l + 1) z)))
+    go true false e r =
+        let z : k ≡ l → ⊥ = eqb-false k l e in
+        omega (arith, p, r, further_not (0 + l) z, further_not (l + 0) z, further_not (n + suc l) {l = suc l} {k = m} (λ f. omega (arith, f, h, r, further_not (l + 0) z)))
+    go false false e r =
+        let z : k ≡ l → ⊥ = eqb-false k l e in
+        omega (arith, q, r, further_not (suc n + l) z, further_not (l + 1) z, further_not (n + suc l) {l = suc l} {k = m} (λ f. omega (arith, f, h, r, further_not (l + 1) z)))
 
-  pub other_seen : (get_or v (n - 1) 0 ≡ 10 → ⊥) → Unbroken v (n - 1)
-  unfolding last_from newline
-  other_seen e = record {
-    inside = omega (arith, u.inside);
-    counted = λ k. rw (one_back, ne_eqb (get_or v (n - 1) 0) 10 e) (omega (arith, u.counted (suc k), u.inside));
-  }
+from_end_inside : (v : List ℕ) → from_end v ≤ length v
+from_end_inside v = omega (arith, prefix_len-le-length (λ x. not (eqb x 10)) (reverse v), length-reverse v)
 
-pub all_seen : {v : List ℕ} {n : ℕ} → Unbroken v n → n ≤ 0 → length v ≡ last_long v
-all_seen {v} {n} u h =
-    let z : n ≡ 0 = omega arith in
-    omega (arith, rw z at (u.counted 0), last_is v)
+last_met : (n : ℕ) (v : List ℕ) → last_from n v ≡ further (n + length v) (length v) (from_end v)
+unfolding last_from further newline
+last_met n [] = omega arith
+last_met n (x ∷ s) = met_more (eqb x 10) n (length s) (from_end s) (from_end_inside s) (last_met 0 s) (last_met (suc n) s) (from_end_cons x s)
+
+-- so the bytes after the last newline are as many
+pub after_is : (v : List ℕ) → unwrap_or (position (λ x. eqb x 10) (reverse v)) (length v) ≡ last_long v
+after_is v = go (nat_lt (from_end v) (length (reverse v))) refl
+  where
+    met : last_long v ≡ from_end v
+    met = sym (last_is v) ∙ last_met 0 v ∙ whole (eqb (from_end v) (length v)) refl
+      where
+        whole : (e : Bool) → eqb (from_end v) (length v) ≡ e → further (0 + length v) (length v) (from_end v) ≡ from_end v
+        whole true e = let z = eqb-true (from_end v) (length v) e in omega (arith, z, further_all (0 + length v) z)
+        whole false e = further_not (0 + length v) (eqb-false (from_end v) (length v) e)
+
+    go : (t : Bool) → nat_lt (from_end v) (length (reverse v)) ≡ t → unwrap_or (if t then Some (from_end v) else None) (length v) ≡ last_long v
+    go true e = sym met
+    go false e = omega (arith, ltb-false (from_end v) (length (reverse v)) e, length-reverse v, from_end_inside v, met)
 
 -- ---- a text
 

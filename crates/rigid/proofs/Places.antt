@@ -1,12 +1,12 @@
 -- Parts of a file between two places: a part of a part, a field of one, and the fields of a 1.
-use Rattle.rules.proofs.Basics.{◌≡◌, sym, ap, ◌∙◌, List, [], ◌∷◌, ℕ, zero, suc, ◌+◌, ◌-◌, ◌*◌, ◌≤◌, ◌<◌, zero-add, arith, length, take, drop, get_or, length-drop, length-take-le, drop-drop, eq-eqb, ne_eqb}
+use Rattle.rules.proofs.Basics.{◌≡◌, refl, sym, ap, ◌∙◌, List, [], ◌∷◌, ℕ, zero, suc, ◌+◌, ◌-◌, ◌*◌, ◌≤◌, ◌<◌, zero-add, arith, length, take, drop, get_or, length-drop, length-take-le, drop-drop, eq-eqb, ne_eqb}
 use lib.Seq.{take-take, get_or-drop, get_or-take}
 use native.Mathlib.Nat.{suc-add}
-use Rattle.rules.specs.Layout.{Shape, byte_width, effective}
+use Rattle.rules.specs.Layout.{Shape, Inline, byte_width, effective}
 use Rattle.fields.specs.declared.Field.{Field}
 use Rattle.fields.specs.declared.Field.TheVariants.{Whole}
 use Rattle.fields.specs.FieldAt.{field_at, length_at}
-use Rattle.fields.proofs.Laws.{is_whole, whole}
+use Rattle.fields.proofs.Laws.{NotWhole, not_whole, is_whole, whole}
 use Rattle.styles.specs.StylesIn.{styles_in}
 use Rattle.fields.specs.Walk.{part, Ends}
 use Rattle.fields.proofs.Spans.{end_after, end_rises, end_within}
@@ -88,6 +88,15 @@ module _ (s : List ℕ) (at end j : ℕ) (l : at ≤ end) where
       ∙ whole (drop at u) j n long (omega (arith, length-drop at u, W.ends, W.to_is)) (omega (arith, length-drop at u, W.ends, W.to_is))
       ∙ ap (λ (v : List ℕ). field_at v j) (sym (part_up_to s at end l))
 
+  not_within : {place : ℕ} {f : Field} → place ≡ at + j → f ≡ field_at (take end s) place → NotWhole f → NotWhole (field_at (part s at end) j)
+  not_within {place} {f} p e n t from to q =
+      let u : List ℕ = take end s in
+      let W = is_whole (drop at u) j t from to (field_at (drop at u) j) refl (ap (λ (v : List ℕ). field_at v j) (sym (part_up_to s at end l)) ∙ q) in
+      let same : (k : ℕ) → get_or (drop at u) (j + k) 0 ≡ get_or u (place + k) 0 = λ k. get_or-drop at u (j + k) 0 ∙ (let q : at + (j + k) ≡ place + k = omega arith in ap (λ (i : ℕ). get_or u i 0) q) in
+      let long : length_at (drop at u) j ≡ length_at u place = (λ i. same 1 i * 256 + same 2 i) in
+      let room : place + 3 + length_at u place ≤ length u = omega (arith, length-drop at u, W.ends, W.to_is, long, p) in
+      n _ _ _ (e ∙ sym (whole u place (length_at u place) refl (omega (arith, room)) room))
+
 -- a whole field of what ends at `end` ends inside the file
 pub ends_in : (s : List ℕ) (end at t from to : ℕ) (f : Field) → end ≤ length s → f ≡ field_at (take end s) at → f ≡ Whole t from to → to ≤ end
 ends_in s end at t from to f h e w = omega (arith, (is_whole (take end s) at t from to f e w).ends, length-take-le end s h)
@@ -98,6 +107,12 @@ ends_in_file s end at t from to f h e w = omega (arith, ends_in s end at t from 
 -- ---- the fields of a 1, by places
 
 module _ (s : List ℕ) (at end : ℕ) (h : end ≤ length s) {f : Field} (e : f ≡ field_at (take end s) at) where
+  pub no_text : at ≤ end → NotWhole f → {r : Shape} → r ≡ Inline 0 0 → r ≡ run_in (part s at end)
+  unfolding run_in styled_in
+  no_text l n q =
+      let v : List ℕ = part s at end in
+      q ∙ sym (not_whole (styled_in v) (λ t. refl) refl (field_at v 0) (not_within s at end 0 l (omega arith) e n))
+
   module _ {t from to : ℕ} (w : f ≡ Whole t from to) where
     inside : (at ≤ from) × (from ≤ to) × (to ≤ end)
     inside =
@@ -113,6 +128,13 @@ module _ (s : List ℕ) (at end : ℕ) (h : end ≤ length s) {f : Field} (e : f
     pub plain_text : (t ≡ 16 → ⊥) → {r : Shape} → r ≡ text_in 10 (part s from to) → r ≡ run_in (part s at end)
     unfolding run_in styled_in
     plain_text n q = rw (← first_is, ne_eqb t 16 n, value_is) q
+
+    pub no_styled_text : t ≡ 16 → {g : Field} → g ≡ field_at (take end s) to → NotWhole g → {r : Shape} → r ≡ Inline 0 0 → r ≡ run_in (part s at end)
+    unfolding run_in styled_in chars_in
+    no_styled_text n e' m q =
+        let v : List ℕ = part s at end in
+        let M : NotWhole (field_at v (to - at)) = not_within s at end (to - at) (omega (arith, inside.0, inside.1, inside.2)) (omega (arith, inside.0, inside.1)) e' m in
+        rw (← first_is, eq-eqb t 16 n) (q ∙ sym (not_whole (chars_in v _) (λ t. refl) refl (field_at v (to - at)) M))
 
     pub styled_text : t ≡ 16 → {g : Field} {t' from' to' w' : ℕ} → g ≡ field_at (take end s) to → g ≡ Whole t' from' to'
         → w' ≡ byte_width (effective (styles_in (part s from to))) → {r : Shape} → r ≡ text_in w' (part s from' to') → r ≡ run_in (part s at end)

@@ -1,55 +1,22 @@
 -- The fields of a 1, and the runs of a 2 one after the other.
-use Rattle.rules.proofs.Basics.{◌≡◌, refl, sym, ◌∙◌, List, Bool, true, ℕ, ◌+◌, ◌-◌, ◌≤◌, ◌<◌, arith, length, take, drop, length-drop, length-take-le, ap, get_or, leb, le-leb, lt-leb, eq-eqb, ne_eqb}
-use Rattle.rules.specs.Layout.{Shape, Inline, ◌⊕◌, byte_width, effective}
+use Rattle.rules.proofs.Basics.{◌≡◌, sym, ◌∙◌, List, Bool, true, ℕ, ◌+◌, ◌-◌, ◌≤◌, ◌<◌, arith, length, take, drop, length-drop, length-take-le, ap, get_or, leb, le-leb, lt-leb, eq-eqb, ne_eqb}
+use Rattle.rules.specs.Layout.{Shape, Inline, ◌⊕◌}
 use Rattle.fields.specs.declared.Field.{Field}
 use Rattle.fields.specs.declared.Field.TheVariants.{Whole}
 use Rattle.fields.specs.FieldAt.{field_at}
-use Rattle.fields.proofs.Laws.{NotWhole, not_whole, rises}
+use Rattle.fields.proofs.Laws.{rises}
 use Rattle.looks.specs.Calm.{Lacks, Says}
-use Rattle.styles.specs.StylesIn.{styles_in}
 use Rattle.fields.specs.Walk.{part, fold, span, here, Ends}
 use Rattle.fields.proofs.Loops.{Left, left_more, left_ends, fold_nil, fold_step}
 use Rattle.rigid.proofs.Lines.{lacking_line}
-use Rattle.rigid.proofs.Places.{plain_text, styled_text, ends_in_file, part_up_to, part_of_front, part_length, part_first, part_behind, ends_rise, ends_inside}
-use Rattle.rigid.specs.RigidIn.{wide, text_in, chars_in, styled_in, run_in, with_run, anchor_in}
+use Rattle.rigid.proofs.Places.{plain_text, ends_in_file, part_up_to, part_of_front, part_length, part_first, part_behind, ends_rise, ends_inside}
+use Rattle.rigid.specs.RigidIn.{wide, run_in, with_run, anchor_in}
 
--- ---- the fields of a 1
-
-module _ (v : List ℕ) {r : Shape} {f : Field} (e : f ≡ field_at v 0) where
-  pub no_run : NotWhole f → r ≡ Inline 0 0 → r ≡ run_in v
-  unfolding run_in styled_in
-  no_run n h = rw (← e) (h ∙ sym (not_whole (styled_in v) (λ t. refl) refl f n))
-
-  module _ {t from to : ℕ} (w : f ≡ Whole t from to) where
-    pub plain_run : (t ≡ 16 → ⊥) → r ≡ text_in 10 (take (to - from) (drop from v)) → r ≡ run_in v
-    unfolding run_in styled_in part
-    plain_run n h = rw (sym e ∙ w, ne_eqb t 16 n) h
-
-    -- with a style
-    module _ (s : t ≡ 16) {g : Field} (e' : g ≡ field_at v to) where
-      pub cut_run : NotWhole g → r ≡ Inline 0 0 → r ≡ run_in v
-      unfolding run_in styled_in chars_in
-      cut_run n h = rw (sym e ∙ w, eq-eqb t 16 s, ← e') (h ∙ sym (not_whole (chars_in v _) (λ t. refl) refl g n))
-
-      pub styled_run : {c t' from' to' : ℕ} → g ≡ Whole t' from' to' → c ≡ byte_width (effective (styles_in (take (to - from) (drop from v))))
-          → r ≡ text_in c (take (to' - from') (drop from' v)) → r ≡ run_in v
-      unfolding run_in styled_in chars_in part
-      styled_run w' ec h = rw (sym e ∙ w, eq-eqb t 16 s, ← ec, sym e' ∙ w') h
-
--- a short line, alone or behind a style
-module _ (s : List ℕ) (at end : ℕ) (h : end ≤ length s) {r : Shape} {x : ℕ} {b : Bool} where
-  pub plain_quick : (t from to : ℕ) {f : Field} → f ≡ field_at (take end s) at → f ≡ Whole t from to → (t ≡ 16 → ⊥)
-      → Says b (Lacks 10 s from to) → b ≡ true → x ≡ wide (to - from) 10 → r ≡ Inline x 0 → r ≡ run_in (part s at end)
-  plain_quick t from to {f} e w n C y fx q =
-      plain_text s at end h e w n (lacking_line 10 (rises (take end s) at t from to f e w) (ends_in_file s end at t from to f h e w) C y fx q)
-
-  pub styled_quick : (from to t' from' to' : ℕ) {g : Field} {c : ℕ} → Whole 16 from to ≡ field_at (take end s) at → g ≡ field_at (take end s) to → g ≡ Whole t' from' to'
-      → c ≡ byte_width (effective (styles_in (part s from to))) → Says b (Lacks 10 s from' to') → b ≡ true → x ≡ wide (to' - from') c → r ≡ Inline x 0 → r ≡ run_in (part s at end)
-  styled_quick from to t' from' to' {g} e e' w' ec C y fx q =
-      styled_text s at end h e refl refl e' w' ec (lacking_line _ (rises (take end s) to t' from' to' g e' w') (ends_in_file s end to t' from' to' g h e' w') C y fx q)
-
-pub style_first : (s : List ℕ) (at t from to : ℕ) {f : Field} → f ≡ field_at s at → f ≡ Whole t from to → t ≡ 16 → Whole 16 from to ≡ field_at s at
-style_first s at t from to e w n = ap (λ (t : ℕ). Whole t from to) (sym n) ∙ sym w ∙ e
+-- a 1 of a 17 alone, of one line
+pub plain_quick : (s : List ℕ) (at end : ℕ) → end ≤ length s → {r : Shape} {x : ℕ} {b : Bool} (t from to : ℕ) {f : Field} → f ≡ field_at (take end s) at → f ≡ Whole t from to → (t ≡ 16 → ⊥)
+    → Says b (Lacks 10 s from to) → b ≡ true → x ≡ wide (to - from) 10 → r ≡ Inline x 0 → r ≡ run_in (part s at end)
+plain_quick s at end h t from to {f} e w n C y fx q =
+    plain_text s at end h e w n (lacking_line 10 (rises (take end s) at t from to f e w) (ends_in_file s end at t from to f h e w) C y fx q)
 
 -- ---- a field of a 2
 

@@ -1,10 +1,8 @@
 -- A width by its product, a tag that is no node's, and a node by its bytes.
-use Rattle.rules.proofs.Basics.{◌≡◌, sym, List, ℕ, ◌+◌, ◌-◌, ◌*◌, ◌≤◌, ◌<◌, arith, length, get_or, mul-le-mul_right, le-leb, lt-leb, ne_eqb}
-use mir.Syntax.{w64}
-use mir.Val.{Fits}
+use Rattle.rules.proofs.Basics.{◌≡◌, sym, List, ℕ, ◌+◌, ◌-◌, ◌*◌, ◌≤◌, ◌<◌, arith, length, get_or, mul-le-mul_right, dec_lt, min, ap, ◌∙◌, le-leb, lt-leb, ne_eqb}
 use Rattle.rules.specs.Limits.{most_tenths}
 use Rattle.rules.specs.Bytes.{cap}
-use Rattle.shapes.proofs.Appending.{cap_over}
+use Rattle.rules.proofs.Stretches.{cap_min}
 use Rattle.rules.specs.Layout.{Shape, Inline}
 use Rattle.fields.specs.Walk.{part}
 use Rattle.rigid.specs.RigidIn.{wide, by_tag, rigid_in}
@@ -18,12 +16,17 @@ no_width n w e =
     let z : n * w ≡ 0 = rw e (omega arith) in
     rw z
 
-pub many_bytes : (n w : ℕ) → (w ≡ 0 → ⊥) → most_tenths < n → most_tenths ≡ wide n w
+-- of more bytes than the cap as much as of the cap's
+pub columns_met : (n w : ℕ) → min (min n most_tenths * w) most_tenths ≡ wide n w
 unfolding wide
-many_bytes n w e h = sym (cap_over (n * w) (omega (arith, mul-le-mul_right {m = 65_536} {n = n} w h)))
-
-pub product_fits : (n w : ℕ) → n ≤ most_tenths → w < 65_536 → Fits w64 (n * w)
-product_fits n w h g = record { fits = omega (arith, mul-le-mul_right {m = n} {n = most_tenths} w h) }
+columns_met n w = go (dec_lt most_tenths n) (dec_lt 0 w)
+  where
+    go : Dec (most_tenths < n) → Dec (0 < w) → min (min n most_tenths * w) most_tenths ≡ cap (n * w)
+    go (no h) v = let e : min n most_tenths ≡ n = omega (arith, h) in ap (λ (n : ℕ). min (n * w) most_tenths) e ∙ sym (cap_min (n * w))
+    go (yes h) (yes g) =
+        let e : min n most_tenths ≡ most_tenths = omega (arith, h) in
+        ap (λ (n : ℕ). min (n * w) most_tenths) e ∙ omega (arith, g, cap_min (n * w), mul-le-mul_right {m = 65_535} {n = n} w (omega (arith, h)))
+    go (yes h) (no g) = let e : w ≡ 0 = omega (arith, g) in rw e (omega (arith, cap_min (n * 0)))
 
 -- ---- by the tag
 

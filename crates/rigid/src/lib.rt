@@ -2,7 +2,7 @@
 
 #![tactic(auto)]
 
-ghost use Rattle.std.specs.Prelude.{◌≡◌, ◌≤◌, length, take};
+ghost use Rattle.std.specs.Prelude.{◌≡◌, ◌≤◌, eqb, length, position, reverse};
 ghost use Rattle.shapes.specs.Shapes.{shape};
 ghost use Rattle.rules.specs.Layout.{only_if_block, byte_width, effective};
 ghost use Rattle.fields.specs.FieldAt.{field_at};
@@ -13,7 +13,7 @@ ghost use Rattle.styles.specs.StylesIn.{styles_in};
 ghost use Rattle.rigid.specs.RigidIn.{wide, last_long, text_in, run_in, with_run, anchor_in, by_tag};
 
 use fields::parts::field_end_in;
-use fields::{Field, field_at, field_in};
+use fields::{Field, field_in};
 use looks::lacks;
 use rules::MOST_TENTHS;
 use shapes::{ApproxLayout, append, block_or_mixed, first, inline, is_block};
@@ -30,36 +30,26 @@ const CAP: usize = MOST_TENTHS as usize;
 pub fn columns(n: usize, w: u16) -> u16
     ensures { result ≡ wide n w }
 {
-    if w == 0 {
-        return 0;
-    }
-    if CAP < n {
-        return MOST_TENTHS;
-    }
-    let all = n * (w as usize);
-    if CAP < all {
-        return MOST_TENTHS;
-    }
-    all as u16
+    (n.min(CAP) * usize::from(w)).min(CAP) as u16
 }
 
-// How many bytes follow the last newline: looked for from the end, where it mostly is near.
+// How far from the end the last newline stands, which mostly is near it.
+fn last_newline(v: &[u8]) -> Option<usize>
+    ensures { result ≡ position (λ b. eqb b 10) (reverse v.now) }
+{
+    v.iter().rev().position(|&b| b == b'\n')
+}
+
+// How many bytes follow the last newline.
 fn after_last(v: &[u8]) -> usize
     ensures { result ≡ last_long v.now }
 {
-    let mut n = v.len();
-    while 0 < n {
-        let at = n - 1;
-        if v[at] == b'\n' {
-            return v.len() - n;
-        }
-        n = at;
-    }
-    v.len()
+    last_newline(v).unwrap_or(v.len())
 }
 
 // A text whose bytes are w tenths of a column wide.
-fn text_layout(v: &[u8], w: u16) -> ApproxLayout
+#[tactic(auto, using(crate::proofs::Lines::one_line, crate::proofs::Lines::lines))]
+fn lines_layout(v: &[u8], w: u16) -> ApproxLayout
     ensures { shape result ≡ text_in w v.now }
 {
     let first = first_line_end(v);
@@ -69,43 +59,24 @@ fn text_layout(v: &[u8], w: u16) -> ApproxLayout
     block_or_mixed(columns(first, w), columns(after_last(v), w))
 }
 
-// The value of a 1, field by field: a 17, or a 16 and a 17.
-fn any_run(v: &[u8]) -> ApproxLayout
-    ensures { shape result ≡ run_in v.now }
+// The text from..to. Most are short and of one line, which a quick look shows.
+fn text_layout(s: &[u8], from: usize, to: usize, w: u16) -> ApproxLayout
+    requires { (from ≤ to) × (to ≤ length s.now) }
+    ensures { shape result ≡ text_in w (part s.now from to) }
 {
-    let Field::Whole { tag, from, to } = field_at(v, 0) else {
-        return inline(0, 0);
-    };
-    if tag != 16 {
-        return text_layout(&v[from..to], BYTE);
+    if lacks(s, from, to, b'\n') {
+        return inline(columns(to - from, w), 0);
     }
-    let w = byte_width_in(&v[from..to]);
-    let Field::Whole {
-        tag: t,
-        from: f,
-        to: e,
-    } = field_at(v, to)
-    else {
-        return inline(0, 0);
-    };
-    text_layout(&v[f..e], w)
+    lines_layout(&s[from..to], w)
 }
 
-// Whether the value from..to of a 16 is a colour alone, which leaves a byte's width as it is. `false` says nothing.
+// Whether the value from..to of a 16 is a colour alone, which leaves a byte's width as it is. `false` says nothing. It stays beside `styles`' own, since the must-fail edit
+// `colour_of_four_bytes` is of this crate.
 fn is_colour(s: &[u8], from: usize, to: usize) -> bool
     requires { (from ≤ to) × (to ≤ length s.now) }
     ensures { Says result (10 ≡ byte_width (effective (styles_in (part s.now from to)))) }
 {
-    if to - from != 6 {
-        return false;
-    }
-    if s[from] != 32 {
-        return false;
-    }
-    if s[from + 1] != 0 {
-        return false;
-    }
-    s[from + 2] == 3
+    to - from == 6 && s[from] == 32 && s[from + 1] == 0 && s[from + 2] == 3
 }
 
 // The width of a byte under the style from..to.
@@ -119,64 +90,50 @@ fn style_width(s: &[u8], from: usize, to: usize) -> u16
     byte_width_in(&s[from..to])
 }
 
-// The value at..end of a 1 that begins with a 16, whose value is from..to.
-fn styled_run(s: &[u8], at: usize, end: usize, from: usize, to: usize) -> ApproxLayout
-    requires { (at ≤ end) × (from ≤ to) × (to ≤ end) × (end ≤ length s.now) × (Whole 16 from to ≡ field_at (take end s.now) at) }
+// The value at..end of a 1: a 17, or a 16 and a 17.
+#[tactic(auto, using(fields::proofs::Laws::rises, crate::proofs::Places::ends_in, crate::proofs::Places::ends_in_file, crate::proofs::Places::no_text, crate::proofs::Places::plain_text))]
+fn run_layout(s: &[u8], at: usize, end: usize) -> ApproxLayout
+    requires { (at ≤ end) × (end ≤ length s.now) }
     ensures { shape result ≡ run_in (part s.now at end) }
 {
+    let Field::Whole { tag, from, to } = field_in(s, at, end) else {
+        return inline(0, 0);
+    };
+    if tag != 16 {
+        return text_layout(s, from, to, BYTE);
+    }
     let Field::Whole {
         tag: t,
         from: f,
         to: e,
     } = field_in(s, to, end)
     else {
-        return any_run(&s[at..end]);
+        return inline(0, 0);
     };
-    let w = style_width(s, from, to);
-    if lacks(s, f, e, b'\n') {
-        return inline(columns(e - f, w), 0);
-    }
-    text_layout(&s[f..e], w)
-}
-
-// The value at..end of a 1. Most texts are short and of one line, which a quick look shows.
-fn run_layout(s: &[u8], at: usize, end: usize) -> ApproxLayout
-    requires { (at ≤ end) × (end ≤ length s.now) }
-    ensures { shape result ≡ run_in (part s.now at end) }
-{
-    let Field::Whole { tag, from, to } = field_in(s, at, end) else {
-        return any_run(&s[at..end]);
-    };
-    if tag == 16 {
-        return styled_run(s, at, end, from, to);
-    }
-    if lacks(s, from, to, b'\n') {
-        return inline(columns(to - from, BYTE), 0);
-    }
-    text_layout(&s[from..to], BYTE)
+    text_layout(s, f, e, style_width(s, from, to))
 }
 
 // The field at..to of a 2, after the ones before it: a 1 is appended.
+#[tactic(auto, using(crate::proofs::Runs::cut_field, crate::proofs::Runs::other_field, crate::proofs::Runs::run_appended))]
 fn with_run(so_far: ApproxLayout, s: &[u8], at: usize, to: usize) -> ApproxLayout
     requires { (at ≤ to) × (to ≤ length s.now) }
     ensures { shape result ≡ with_run (shape so_far) (part s.now at to) }
 {
-    if to - at < 3 {
-        return so_far;
-    }
-    if s[at] != 1 {
+    if to - at < 3 || s[at] != 1 {
         return so_far;
     }
     append(so_far, run_layout(s, at + 3, to))
 }
 
 // The value from..end of a 2: its texts, one after the other.
+#[tactic(auto, using(crate::proofs::Runs::all_runs, crate::proofs::Places::ends_rise, crate::proofs::Places::ends_inside_file, crate::proofs::Places::ends_less, crate::proofs::Runs::next_run, crate::proofs::Runs::no_runs))]
 fn anchor_layout(s: &[u8], from: usize, end: usize) -> ApproxLayout
     requires { (from ≤ end) × (end ≤ length s.now) }
     ensures { shape result ≡ anchor_in (part s.now from end) }
 {
     let mut so_far = inline(0, 0);
     let mut at = from;
+    // no plainer by an iterator, whose `next` would have to find where each field ends
     while at < end {
         let to = field_end_in(s, at, end);
         so_far = with_run(so_far, s, at, to);
@@ -201,11 +158,7 @@ fn if_block_layout(s: &[u8], from: usize, to: usize) -> ApproxLayout
     requires { (from ≤ to) × (to ≤ length s.now) }
     ensures { shape result ≡ only_if_block (text_in 10 (part s.now from to)) }
 {
-    if lacks(s, from, to, b'\n') {
-        let worst = columns(to - from, BYTE);
-        return inline(worst, worst);
-    }
-    only_if_block(text_layout(&s[from..to], BYTE))
+    only_if_block(text_layout(s, from, to, BYTE))
 }
 
 // A node with this tag, whose value is from..to.
@@ -216,9 +169,8 @@ pub fn approx_rigid_layout(tag: u8, s: &[u8], from: usize, to: usize) -> ApproxL
     match tag {
         1 => run_layout(s, from, to),
         2 => anchor_layout(s, from, to),
-        3 => block_or_mixed(0, 0),
-        5 => inline(10, 0),
-        6 => block_or_mixed(0, 0),
+        3 | 6 => block_or_mixed(0, 0),
+        5 => inline(BYTE, 0),
         7 => if_block_layout(s, from, to),
         _ => inline(0, 0),
     }

@@ -3,9 +3,8 @@
 use Rattle.rules.proofs.Basics.{◌≡◌, refl, sym, ◌∙◌, ap, List, [], ◌∷◌, ℕ, ◌+◌, ◌-◌, ◌*◌, ◌/◌, ◌%◌, ◌≤◌, arith, get_or, ne_eqb}
 use Rattle.rules.specs.declared.Refusal.{Refusal}
 use Rattle.rules.specs.declared.Refusal.TheVariants.{TooLong, TooWide, Cut, WrongTag, WrongLength, TooDeep, NotUtf8, BadStyle, QuoteInAnchor, PageTooShort, NulInText}
-use Rattle.rules.specs.declared.Answer.{Answer}
-use Rattle.rules.specs.declared.Answer.TheVariants.{Done, Refused}
-use Rattle.rules.specs.Result.{Result, refused, accepted, refusal, said}
+use Rattle.std.specs.Prelude.{Ok, Err}
+use Rattle.rules.specs.Result.{Result, Answer, refused, accepted, refusal, said}
 use Rattle.rules.specs.Answers.{coded, coded_outcome, decoded}
 
 -- the refusal of a number and a place, and the answer that says something
@@ -16,23 +15,23 @@ by_number n p =
     (n - 1) (NulInText p)
 
 abbrev answer_of : Result ℕ → Answer
-answer_of (refused n p) = Refused (by_number n p)
-answer_of (accepted n) = Done n
+answer_of (refused n p) = Err (by_number n p)
+answer_of (accepted n) = Ok n
 
 answer_back : (a : Answer) → answer_of (said a) ≡ a
 unfolding said refusal
-answer_back (Done n) = refl
-answer_back (Refused TooLong) = refl
-answer_back (Refused TooWide) = refl
-answer_back (Refused (Cut p)) = refl
-answer_back (Refused (WrongTag p)) = refl
-answer_back (Refused (WrongLength p)) = refl
-answer_back (Refused (TooDeep p)) = refl
-answer_back (Refused (NotUtf8 p)) = refl
-answer_back (Refused (BadStyle p)) = refl
-answer_back (Refused (QuoteInAnchor p)) = refl
-answer_back (Refused (PageTooShort p)) = refl
-answer_back (Refused (NulInText p)) = refl
+answer_back (Ok n) = refl
+answer_back (Err TooLong) = refl
+answer_back (Err TooWide) = refl
+answer_back (Err (Cut p)) = refl
+answer_back (Err (WrongTag p)) = refl
+answer_back (Err (WrongLength p)) = refl
+answer_back (Err (TooDeep p)) = refl
+answer_back (Err (NotUtf8 p)) = refl
+answer_back (Err (BadStyle p)) = refl
+answer_back (Err (QuoteInAnchor p)) = refl
+answer_back (Err (PageTooShort p)) = refl
+answer_back (Err (NulInText p)) = refl
 
 -- TWO ANSWERS THAT SAY THE SAME ARE THE SAME
 pub said_unique : (a b : Answer) → said a ≡ said b → a ≡ b

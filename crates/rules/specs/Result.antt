@@ -1,9 +1,8 @@
--- An answer, or a refusal by document 01's number and place; and what the two types of the code say in these words.
-use Rattle.std.specs.Prelude.{List, [], ◌∷◌, Bool, true, false, ℕ}
+-- An answer, or a refusal by document 01's number and place; and what the answers of the code say in these words.
+use Rattle.std.specs.Prelude.{List, [], ◌∷◌, Bool, true, false, ℕ, Ok, Err}
+use Rattle.std.specs.Prelude as std
 use Rattle.rules.specs.declared.Refusal.{Refusal}
 use Rattle.rules.specs.declared.Refusal.TheVariants.{TooLong, TooWide, Cut, WrongTag, WrongLength, TooDeep, NotUtf8, BadStyle, QuoteInAnchor, PageTooShort, NulInText}
-use Rattle.rules.specs.declared.Answer.{Answer}
-use Rattle.rules.specs.declared.Answer.TheVariants.{Done, Refused}
 
 pub data Result (A : Type 0) : Type 0 where
   refused : (number place : ℕ) → Result A
@@ -51,7 +50,11 @@ refusal (QuoteInAnchor p) = refused 9 p
 refusal (PageTooShort needed) = refused 10 needed
 refusal (NulInText p) = refused 14 p
 
+-- what a public entry answers
+abbrev pub Answer : Type 0
+Answer = std.Result ℕ Refusal
+
 -- what an answer of the code says
 unfoldable pub said : Answer → Result ℕ
-said (Done n) = accepted n
-said (Refused r) = refusal r
+said (Ok n) = accepted n
+said (Err r) = refusal r

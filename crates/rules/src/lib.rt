@@ -1,5 +1,5 @@
 // The rules of document 01. This crate is its specs/ (the rules) and its proofs/ (theorems about them); its code is the limits, which
-// specs/Limits has by the same names, and the two types that every public answer has.
+// specs/Limits has by the same names, and the refusals that every public entry answers.
 
 #![tactic(auto)]
 
@@ -32,7 +32,8 @@ pub const FIRST_STYLE: u8 = 32;
 pub const LAST_STYLE: u8 = 39;
 
 // Why a file, a width or a page buffer is refused: a case for each of document 01's numbers, in their order, and strict mode's 14, with the place where it is not 0.
-#[derive(Drop)]
+// A public entry answers `Result<usize, Refusal>`: a count (the tags that layout changed, the page's length, 0 for the file check), or the refusal.
+#[derive(Debug, Clone, Copy, PartialEq, Eq)]
 pub enum Refusal {
     TooLong,
     TooWide,
@@ -45,11 +46,4 @@ pub enum Refusal {
     QuoteInAnchor(usize),
     PageTooShort(usize),
     NulInText(usize),
-}
-
-// What a public entry answers: a count (the tags that layout changed, the page's length, 0 for the file check), or the refusal.
-#[derive(Drop)]
-pub enum Answer {
-    Done(usize),
-    Refused(Refusal),
 }

@@ -1,6 +1,7 @@
 -- A step that is carried out: what stands in the buffer after each of its parts.
 use Rattle.rules.proofs.Basics.{◌≡◌, refl, sym, ap, ap₂, ◌∙◌, List, ◌++◌, ℕ, zero, suc, ◌+◌, ◌≤◌, ◌<◌, arith, Bool, true, false, eqb, leb, le-leb, length, take, drop, length-append, length-drop, take-append-drop, drop-drop, length-take-le, sets-eq, ◌||◌}
 use lib.Seq.{take-append_seam, drop-append-add}
+use Rattle.std.specs.Prelude.{Option, Some, None}
 use Rattle.rules.proofs.Chains.{no_path}
 use Rattle.rules.specs.Limits.{most_bytes}
 use Rattle.rules.specs.Result.{accepted}
@@ -54,19 +55,19 @@ close_on {b} {w} {x} {x'} {at} top n H e W k =
 
 -- ---- the parts of a plan, one after the other
 
-header_length : (o : Bool) (c t : ℕ) → length (opened_header o c t) ≡ header_size o
+header_length : (o : Option ℕ) (t : ℕ) → length (opened_header o t) ≡ header_size o
 unfolding opened_header header_size
-header_length true c t = refl
-header_length false c t = refl
+header_length (Some c) t = refl
+header_length None t = refl
 
 above : (t : ℕ) → eqb t 0 ≡ false → 0 < t
 above zero e = no_path (cc)
 above (suc t) e = omega arith
 
-top_small : (o : Bool) (a t : ℕ) → a ≤ 60_000 → t < 65_536 → opened_top o a t ≤ 65_535
+top_small : (o : Option ℕ) (a t : ℕ) → a ≤ 60_000 → t < 65_536 → opened_top o a t ≤ 65_535
 unfolding opened_top
-top_small true a t h k = omega arith
-top_small false a t h k = omega arith
+top_small (Some c) a t h k = omega arith
+top_small None a t h k = omega arith
 
 sane_on : (room at a top : ℕ) → sane room at top ≡ true → at ≤ a → a ≤ most_bytes → a ≤ room → sane room a top ≡ true
 unfolding sane
@@ -84,12 +85,12 @@ carried_length p st v b at top h =
     let t : ℕ = closed_top w (length w) top p.closes in
     omega (
       arith,
-      length-append (c ++ opened_header p.opens p.code t) (piece_bytes p.behind st v),
-      length-append c (opened_header p.opens p.code t),
+      length-append (c ++ opened_header p.opens t) (piece_bytes p.behind st v),
+      length-append c (opened_header p.opens t),
       bytes_kept w (length w) top p.closes,
       length-append (take at b) (piece_bytes p.before st v),
       length-take-le at b h,
-      header_length p.opens p.code t,
+      header_length p.opens t,
       piece_length p.before st v,
       piece_length p.behind st v,
     )
@@ -99,9 +100,9 @@ module _ (p : Plan) (st : Style) (v b : List ℕ) (at top : ℕ) (R : Ready p st
   S = is_sane R.standing
 
   -- the lengths of the parts
-  sizes : (t : ℕ) → at + length (piece_bytes p.before st v) + length (opened_header p.opens p.code t) + length (piece_bytes p.behind st v) ≡ at + plan_size p st (length v)
+  sizes : (t : ℕ) → at + length (piece_bytes p.before st v) + length (opened_header p.opens t) + length (piece_bytes p.behind st v) ≡ at + plan_size p st (length v)
   unfolding plan_size
-  sizes t = omega (arith, piece_length p.before st v, piece_length p.behind st v, header_length p.opens p.code t)
+  sizes t = omega (arith, piece_length p.before st v, piece_length p.behind st v, header_length p.opens t)
 
   pub before_short : length (piece_bytes p.before st v) ≤ 60_000
   before_short = omega (arith, sizes 0, R.in_file)
@@ -120,7 +121,7 @@ module _ (p : Plan) (st : Style) (v b : List ℕ) (at top : ℕ) (R : Ready p st
   t₂ = closed_top w₁ (length w₁) top p.closes
 
   abbrev w₃ : List ℕ
-  w₃ = w₂ ++ opened_header p.opens p.code t₂
+  w₃ = w₂ ++ opened_header p.opens t₂
 
   so_long : length (take at b) ≡ at
   so_long = length-take-le at b S.in_room
@@ -128,8 +129,8 @@ module _ (p : Plan) (st : Style) (v b : List ℕ) (at top : ℕ) (R : Ready p st
   long₁ : length w₁ ≡ at + length (piece_bytes p.before st v)
   long₁ = omega (arith, length-append (take at b) (piece_bytes p.before st v), so_long)
 
-  long₃ : length w₃ ≡ at + length (piece_bytes p.before st v) + length (opened_header p.opens p.code t₂)
-  long₃ = omega (arith, length-append w₂ (opened_header p.opens p.code t₂), bytes_kept w₁ (length w₁) top p.closes, long₁)
+  long₃ : length w₃ ≡ at + length (piece_bytes p.before st v) + length (opened_header p.opens t₂)
+  long₃ = omega (arith, length-append w₂ (opened_header p.opens t₂), bytes_kept w₁ (length w₁) top p.closes, long₁)
 
   pub holds₁ : {b₁ : List ℕ} {a : ℕ} → Written b at (piece_bytes p.before st v) b₁ a → Holds b w₁ b₁ × (a ≡ length w₁)
   holds₁ f =
@@ -162,22 +163,22 @@ module _ (p : Plan) (st : Style) (v b : List ℕ) (at top : ℕ) (R : Ready p st
 
   -- the numbers stay small
   pub near : {b₁ b₂ b₃ b₄ : List ℕ} {a t s u : ℕ} {m : Moved} → Written b at (piece_bytes p.before st v) b₁ a → Closed b₁ a top p.closes t b₂
-      → Written b₂ a (opened_header p.opens p.code t) b₃ s × (u ≡ opened_top p.opens a t) → Says m b₄ (left b at top (accepted (carried_out p st v (so_far b at top)))) → (m.top ≡ u) → Near m at top
+      → Written b₂ a (opened_header p.opens t) b₃ s × (u ≡ opened_top p.opens a t) → Says m b₄ (left b at top (accepted (carried_out p st v (so_far b at top)))) → (m.top ≡ u) → Near m at top
   unfolding left coded
   near {a = a} {t} {u = u} f k g h e =
       record { at_near = omega (arith, h.at_is, carried_length p st v b at top S.in_room, R.in_file); top_near = omega (arith, e, top_small p.opens a t (position₁ f) k.1, g.1); answer_near = rw h.answer_is (omega (arith, carried_length p st v b at top S.in_room, R.in_file)) }
 
   -- all of it
   pub carried : {b₁ b₂ b₃ b₄ : List ℕ} {a t s u r : ℕ} {m : Moved} → Written b at (piece_bytes p.before st v) b₁ a → Closed b₁ a top p.closes t b₂
-      → Written b₂ a (opened_header p.opens p.code t) b₃ s × (u ≡ opened_top p.opens a t) → Written b₃ s (piece_bytes p.behind st v) b₄ r
+      → Written b₂ a (opened_header p.opens t) b₃ s × (u ≡ opened_top p.opens a t) → Written b₃ s (piece_bytes p.behind st v) b₄ r
       → (m.at ≡ r) × (m.top ≡ u) × (said m.answer ≡ accepted r) → Says m b₄ (left b at top (accepted (carried_out p st v (so_far b at top))))
   unfolding left carried_out
   carried {b₂ = b₂} {b₃} {a = a} {t} {s} f k g h m =
       let (H₁, e₁) = holds₁ f in
       let (H₂, e₂) = close_on top p.closes H₁ e₁ (within b w₁ top p.closes link₁ inside₁ R.closing) k in
       let l₂ : length w₂ ≡ length w₁ = bytes_kept w₁ (length w₁) top p.closes in
-      let g' : Written b₂ a (opened_header p.opens p.code t₂) b₃ s = rw e₂ at g.0 in
-      let (H₃, e₃) = put_on (opened_header p.opens p.code t₂) H₂ (e₁ ∙ sym l₂) g' (omega (arith, l₂, long₁, sizes t₂, R.in_room)) (omega (arith, l₂, long₁, sizes t₂, R.in_file)) in
+      let g' : Written b₂ a (opened_header p.opens t₂) b₃ s = rw e₂ at g.0 in
+      let (H₃, e₃) = put_on (opened_header p.opens t₂) H₂ (e₁ ∙ sym l₂) g' (omega (arith, l₂, long₁, sizes t₂, R.in_room)) (omega (arith, l₂, long₁, sizes t₂, R.in_file)) in
       let (H₄, e₄) = put_on (piece_bytes p.behind st v) H₃ e₃ h (omega (arith, long₃, sizes t₂, R.in_room)) (omega (arith, long₃, sizes t₂, R.in_file)) in
       record {
         bytes_are = H₄.is;

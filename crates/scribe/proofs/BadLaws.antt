@@ -1,13 +1,16 @@
 -- A style's checks, by its record: 8 where a value is not right, where an opacity has no colour, or where there are both scripts.
 use Rattle.std.specs.Prelude.{if◌then◌else◌}
-use Rattle.rules.proofs.Basics.{◌≡◌, refl, sym, ap, ◌∙◌, List, [], ◌∷◌, ◌++◌, append-nil, append_assoc, ℕ, arith, Bool, true, false, ◌&&◌, ◌||◌, not, not-false, eqb}
+use Rattle.rules.proofs.Basics.{◌≡◌, refl, sym, ap, ◌∙◌, List, [], ◌∷◌, ◌++◌, append-nil, append_assoc, ℕ, arith, Bool, true, false, ◌&&◌, ◌||◌, not, eqb}
 use Rattle.rules.specs.Bytes.{has, number, number_from}
-use Rattle.rules.specs.Result.{Check, ◌or_refuse◌}
+use Rattle.rules.specs.Result.{Check, ◌or_refuse◌, sound}
 use Rattle.rules.specs.Walk.{Fields, end, content, complete, tags, right_opacity, right_size}
 use Rattle.scripts.specs.Steps.{value_checks, style_checks}
 use Rattle.moves.specs.declared.Style.{Style}
 use Rattle.moves.specs.Style.{with_field, style_fields, there, style_of, bad_style}
 use Rattle.moves.specs.Plans.{first_fault}
+use Rattle.moves.specs.Stepped.{refusal, checked}
+use Rattle.moves.specs.declared.Refusal.TheVariants.{BadStyle}
+use Rattle.scribe.proofs.CheckLaws.{Right, Wrong, sound_fault, no_fault, style_numbered}
 
 -- ---- which tags there are
 
@@ -102,8 +105,17 @@ pub no_style_fault : (st : Style) → st.styled ≡ false → first_fault (style
 unfolding style_checks style_of there first_fault
 no_style_fault st e = ap (λ (b : Bool). first_fault (style_checks (there b (style_fields st)))) e
 
-pub bad_fault : (st : Style) {b : Bool} → not st.styled ≡ false → b ≡ bad_style st → b ≡ true → 8 ≡ first_fault (style_checks (style_of st))
-bad_fault st h e t = sym (style_fault_is st (not-false _ h) ∙ ap (λ (x : Bool). if x then 8 else 0) (sym e ∙ t))
+pub good_fault : (st : Style) {b : Bool} → st.styled ≡ true → b ≡ bad_style st → b ≡ false → 0 ≡ first_fault (style_checks (style_of st))
+good_fault st h e t = sym (style_fault_is st h ∙ ap (λ (x : Bool). if x then 8 else 0) (sym e ∙ t))
 
-pub good_fault : (st : Style) {b : Bool} → not st.styled ≡ false → b ≡ bad_style st → b ≡ false → 0 ≡ first_fault (style_checks (style_of st))
-good_fault st h e t = sym (style_fault_is st (not-false _ h) ∙ ap (λ (x : Bool). if x then 8 else 0) (sym e ∙ t))
+pub bad_is_wrong : (st : Style) (p : ℕ) {b : Bool} → st.styled ≡ true → b ≡ bad_style st → b ≡ true → Wrong (BadStyle p) (sound (style_checks (style_of st)) p)
+unfolding checked refusal
+bad_is_wrong st p h e t =
+    let f : 8 ≡ first_fault (style_checks (style_of st)) = sym (style_fault_is st h ∙ ap (λ (x : Bool). if x then 8 else 0) (sym e ∙ t)) in
+    sym (sound_fault (style_checks (style_of st)) p f (λ z. absurd (omega (arith, z))))
+
+pub good_is_right : (st : Style) (p : ℕ) {b : Bool} → st.styled ≡ true → b ≡ bad_style st → b ≡ false → Right (sound (style_checks (style_of st)) p)
+good_is_right st p h e t = no_fault (style_checks (style_of st)) p (style_numbered (style_of st)) (good_fault st h e t) refl
+
+pub none_is_right : (st : Style) (p : ℕ) → st.styled ≡ false → Right (sound (style_checks (style_of st)) p)
+none_is_right st p h = no_fault (style_checks (style_of st)) p (style_numbered (style_of st)) (sym (no_style_fault st h)) refl

@@ -7,5 +7,4 @@ pub mod BadLaws
 pub mod PieceLaws
 pub mod ActLaws
 pub mod StepLaws
-pub mod Again
 pub mod NumberLaws

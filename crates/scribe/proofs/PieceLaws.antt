@@ -32,18 +32,6 @@ pub run_fits : (p : Piece) (st : Style) (v : List ℕ) → p ≡ piece.Run → l
 unfolding piece_bytes
 run_fits p st v e h = omega (arith, rw e at h, run_length st v)
 
-pub conditional_fits : (p : Piece) (st : Style) (v : List ℕ) → p ≡ piece.Conditional → length (piece_bytes p st v) ≤ 60_000 → length v < 65_536
-unfolding piece_bytes field
-conditional_fits p st v e h = omega (arith, rw e at h)
-
-pub definition_fits : (p : Piece) (st : Style) (v : List ℕ) → p ≡ piece.Definition → length (piece_bytes p st v) ≤ 60_000 → length v < 65_536
-unfolding piece_bytes field
-definition_fits p st v e h = omega (arith, rw e at h)
-
-pub use_fits : (p : Piece) (st : Style) (v : List ℕ) → p ≡ piece.Use → length (piece_bytes p st v) ≤ 60_000 → length v < 65_536
-unfolding piece_bytes field
-use_fits p st v e h = omega (arith, rw e at h)
-
 -- ---- a text's length counts up to 65,536, past which no file goes
 
 piece_least : (p : Piece) (st : Style) (n : ℕ) → piece_size p st (min n 65_536) ≤ piece_size p st n

@@ -1,22 +1,9 @@
--- What is open by its kind, where no arm of a table is taken; the numbers that a writer can have; the fields that can be closed.
-use Rattle.rules.proofs.Basics.{◌≡◌, refl, List, ℕ, zero, suc, ◌+◌, ◌≤◌, ◌<◌, arith, Bool, true, false, ◌&&◌, ◌||◌, leb, ltb, eqb, ne_eqb, eqb-true, leb-true, ltb-true, le-leb, lt-leb}
+-- The numbers that a writer can have; the fields that can be closed.
+use Rattle.rules.proofs.Basics.{◌≡◌, refl, List, ℕ, zero, suc, ◌+◌, ◌≤◌, ◌<◌, arith, Bool, true, false, ◌&&◌, ◌||◌, leb, ltb, eqb, eqb-true, leb-true, ltb-true, le-leb}
 use Rattle.rules.specs.Limits.{most_bytes}
 use Rattle.rules.proofs.Chains.{no_path}
-use Rattle.moves.specs.Plans.{puts, next_plan, end_space_plan, end_comma_plan, sane, closable}
+use Rattle.moves.specs.Plans.{sane, closable}
 use Rattle.moves.specs.Opened.{link_at}
-use Rattle.moves.specs.declared.Piece.TheVariants.{Nothing}
-
-pub no_next : (k d : ℕ) → (k ≡ 1 → ⊥) → (k ≡ 2 → ⊥) → (k ≡ 5 → ⊥) → (k ≡ 6 → ⊥) → next_plan k d ≡ puts false Nothing
-unfolding next_plan
-no_next k d a b c e = rw (ne_eqb k 1 a, ne_eqb k 2 b, ne_eqb k 5 c, ne_eqb k 6 e)
-
-pub no_end_space : (k : ℕ) → (k ≡ 1 → ⊥) → (k ≡ 5 → ⊥) → end_space_plan k ≡ puts false Nothing
-unfolding end_space_plan
-no_end_space k a b = rw (ne_eqb k 1 a, ne_eqb k 5 b)
-
-pub no_end_comma : (k : ℕ) → (k ≡ 2 → ⊥) → (k ≡ 6 → ⊥) → end_comma_plan k ≡ puts false Nothing
-unfolding end_comma_plan
-no_end_comma k a b = rw (ne_eqb k 2 a, ne_eqb k 6 b)
 
 -- ---- numbers that a writer can have
 
@@ -42,9 +29,6 @@ is_sane {room} {at} {top} e =
     go true q h = let z : top ≡ 0 = eqb-true top 0 q in (omega (arith, z), λ l. omega (arith, z, l))
     go false q h = let z : top + 2 ≤ at = leb-true (top + 2) at h in (omega (arith, z), λ l. z)
 
-pub near : (at top : ℕ) → at < top → leb (top + 2) at ≡ false
-near at top h = lt-leb (top + 2) at (omega arith)
-
 -- ---- fields that can be closed
 
 pub none_open : (w : List ℕ) (n : ℕ) → (n ≡ 0 → ⊥) → closable w 0 n ≡ false
@@ -68,10 +52,6 @@ two_open w top zero p h a b e = absurd (a refl)
 two_open w top (suc zero) p h a b e = absurd (b refl)
 two_open w zero (suc (suc n)) p h a b e = absurd (h refl)
 two_open w (suc top) (suc (suc n)) p h a b e = let q : leb 1 (suc top) ≡ true = le-leb 1 (suc top) (omega arith) in rw (q, e)
-
-pub two_open_so : (w : List ℕ) (top n p : ℕ) → (top ≡ 0 → ⊥) → (n ≡ 0 → ⊥) → (n ≡ 1 → ⊥) → p ≡ link_at w top → (p ≡ 0 → ⊥) → ltb p top ≡ closable w top n
-two_open_so w top n zero h a b e z = absurd (z refl)
-two_open_so w top n (suc p) h a b e z = let q : leb 1 (suc p) ≡ true = le-leb 1 (suc p) (omega arith) in rw (two_open w top n (suc p) h a b e, q)
 
 pub record Two (w : List ℕ) (top : ℕ) : Type 0 where
   pub inner : 0 < top

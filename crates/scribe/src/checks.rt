@@ -1,141 +1,94 @@
-// What is wrong in what a step brings, by number, or 0; and how many bytes it is.
-ghost use Rattle.std.specs.Prelude.{◌≡◌, ◌&&◌, ◌||◌, not, ◌+◌, ◌≤◌, min, length};
+// What is wrong in what a step brings, as the step's refusal; and how many bytes it is.
+ghost use Rattle.std.specs.Prelude.{◌≡◌, ◌+◌, ◌≤◌, min, length};
+ghost use Rattle.rules.specs.Result.{sound};
 ghost use Rattle.rules.specs.Walk.{text_content, anchor_content};
 ghost use Rattle.scripts.specs.Steps.{style_checks, run_checks};
 ghost use Rattle.moves.specs.Style.{style_of, run, bad_style};
-ghost use Rattle.moves.specs.Plans.{first_fault, piece_checks, plan_checks, piece_size, header_size, plan_size};
+ghost use Rattle.moves.specs.Plans.{piece_checks, plan_checks, piece_size, header_size, plan_size};
+ghost use Rattle.moves.specs.Stepped.{checked};
 
-use crate::plan::both;
 use crate::style::style_size;
-use fields::wide;
-use moves::{Piece, Plan, Style};
+use moves::{Piece, Plan, Refusal, Style};
 use utf8::{Utf8, check_utf8, has_byte};
 use verify::style::{right_opacity, right_size, word};
 
-fn text_fault(v: &[u8]) -> usize
-    ensures { result ≡ first_fault (text_content v.now) }
+fn check_text(v: &[u8], at: usize) -> Result<(), Refusal>
+    ensures { checked result ≡ sound (text_content v.now) at }
 {
     let Utf8::Sound = check_utf8(v) else {
-        return 7;
+        return Err(Refusal::NotUtf8(at));
     };
-    0
+    Ok(())
 }
 
 // UTF-8 comes before the quote.
-fn name_fault(v: &[u8]) -> usize
-    ensures { result ≡ first_fault (anchor_content v.now) }
+fn check_name(v: &[u8], at: usize) -> Result<(), Refusal>
+    ensures { checked result ≡ sound (anchor_content v.now) at }
 {
-    let Utf8::Sound = check_utf8(v) else {
-        return 7;
-    };
+    check_text(v, at)?;
     if has_byte(v, b'"') {
-        return 9;
+        return Err(Refusal::QuoteInAnchor(at));
     }
-    0
-}
-
-// A value that is there and is not right.
-fn wrong(there: bool, right: bool) -> bool
-    ensures { result ≡ (there && not right) }
-{
-    if there {
-        return !right;
-    }
-    false
-}
-
-// One of four.
-fn any(a: bool, b: bool, c: bool, d: bool) -> bool
-    ensures { result ≡ (a || (b || (c || d))) }
-{
-    if a {
-        return true;
-    }
-    if b {
-        return true;
-    }
-    if c {
-        return true;
-    }
-    d
+    Ok(())
 }
 
 // A style's values, then what they have together.
+#[tactic(auto, unfolding(moves::specs::Style::bad_style))]
 fn is_bad(st: Style) -> bool
     ensures { result ≡ bad_style st }
 {
     let bits = st.opacity;
-    let unclear = wrong(st.has_opacity, right_opacity(word(&bits)));
-    let oversize = wrong(st.has_size, right_size(wide(st.size)));
-    let colourless = wrong(st.has_opacity, st.has_colour);
-    any(
-        unclear,
-        oversize,
-        colourless,
-        both(st.subscript, st.superscript),
-    )
+    (st.has_opacity && !right_opacity(word(&bits)))
+        || (st.has_size && !right_size(usize::from(st.size)))
+        || (st.has_opacity && !st.has_colour)
+        || (st.subscript && st.superscript)
 }
 
-pub fn style_fault(st: Style) -> usize
-    ensures { result ≡ first_fault (style_checks (style_of st)) }
+pub fn check_style(st: Style, at: usize) -> Result<(), Refusal>
+    ensures { checked result ≡ sound (style_checks (style_of st)) at }
 {
-    if !st.styled {
-        return 0;
+    if st.styled && is_bad(st) {
+        return Err(Refusal::BadStyle(at));
     }
-    if is_bad(st) {
-        return 8;
-    }
-    0
+    Ok(())
 }
 
 // The style comes first.
-fn run_fault(st: Style, v: &[u8]) -> usize
-    ensures { result ≡ first_fault (run_checks (run st v.now)) }
+fn check_run(st: Style, v: &[u8], at: usize) -> Result<(), Refusal>
+    ensures { checked result ≡ sound (run_checks (run st v.now)) at }
 {
-    let f = style_fault(st);
-    if f != 0 {
-        return f;
-    }
-    text_fault(v)
+    check_style(st, at)?;
+    check_text(v, at)
 }
 
-fn piece_fault(piece: Piece, st: Style, v: &[u8]) -> usize
-    ensures { result ≡ first_fault (piece_checks piece st v.now) }
+#[tactic(auto, unfolding(moves::specs::Plans::piece_checks, moves::specs::Stepped::checked, rules::specs::Result::sound))]
+fn check_piece(piece: Piece, st: Style, v: &[u8], at: usize) -> Result<(), Refusal>
+    ensures { checked result ≡ sound (piece_checks piece st v.now) at }
 {
     match piece {
-        Piece::Nothing => 0,
-        Piece::Run => run_fault(st, v),
-        Piece::Space => 0,
-        Piece::Force => 0,
-        Piece::Conditional => text_fault(v),
-        Piece::Definition => name_fault(v),
-        Piece::Use => name_fault(v),
-        Piece::CommaSpace => 0,
-        Piece::LastComma => 0,
+        Piece::Run => check_run(st, v, at),
+        Piece::Conditional => check_text(v, at),
+        Piece::Definition | Piece::Use => check_name(v, at),
+        Piece::Nothing | Piece::Space | Piece::Force | Piece::CommaSpace | Piece::LastComma => {
+            Ok(())
+        }
     }
 }
 
 // What is put before, what is put behind, then the depth of the block between them.
-pub fn plan_fault(p: Plan, st: Style, v: &[u8]) -> usize
-    ensures { result ≡ first_fault (plan_checks p st v.now) }
+pub fn check_plan(p: Plan, st: Style, v: &[u8], at: usize) -> Result<(), Refusal>
+    ensures { checked result ≡ sound (plan_checks p st v.now) at }
 {
-    let before = p.before;
-    let f = piece_fault(before, st, v);
-    if f != 0 {
-        return f;
-    }
-    let behind = p.behind;
-    let g = piece_fault(behind, st, v);
-    if g != 0 {
-        return g;
-    }
+    check_piece(p.before, st, v, at)?;
+    check_piece(p.behind, st, v, at)?;
     if p.too_deep {
-        return 6;
+        return Err(Refusal::TooDeep(at));
     }
-    0
+    Ok(())
 }
 
 // A piece's bytes, of a text of n.
+#[tactic(auto, unfolding(moves::specs::Plans::piece_size))]
 fn piece_size(piece: Piece, st: Style, n: usize) -> usize
     requires { n ≤ 65_536 }
     ensures { (result ≡ piece_size piece st n) × (result ≤ 70_000) }
@@ -143,42 +96,28 @@ fn piece_size(piece: Piece, st: Style, n: usize) -> usize
     match piece {
         Piece::Nothing => 0,
         Piece::Run => 6 + style_size(st) + n,
-        Piece::Space => 3,
-        Piece::Force => 3,
-        Piece::Conditional => 3 + n,
-        Piece::Definition => 3 + n,
-        Piece::Use => 3 + n,
+        Piece::Space | Piece::Force => 3,
+        Piece::Conditional | Piece::Definition | Piece::Use => 3 + n,
         Piece::CommaSpace => 10,
         Piece::LastComma => 4,
     }
 }
 
-// A text's length, as far as it matters: a longer one fits no file.
-fn short(n: usize) -> usize
-    ensures { result ≡ min n 65_536 }
-{
-    if n < 65536 {
-        return n;
-    }
-    65536
-}
-
-fn header_size(opens: bool) -> usize
+#[tactic(auto, unfolding(moves::specs::Plans::header_size))]
+fn header_size(opens: Option<u8>) -> usize
     ensures { (result ≡ header_size opens) × (result ≤ 3) }
 {
-    if opens {
-        return 3;
+    match opens {
+        Some(_) => 3,
+        None => 0,
     }
-    0
 }
 
-// The bytes that a step puts.
+// The bytes that a step puts, of a text as long as it matters: a longer one fits no file.
+#[tactic(auto, unfolding(moves::specs::Plans::plan_size))]
 pub fn plan_size(p: Plan, st: Style, n: usize) -> usize
     ensures { (result ≡ plan_size p st (min n 65_536)) × (result ≤ 150_000) }
 {
-    let m = short(n);
-    let before = p.before;
-    let behind = p.behind;
-    let a = piece_size(before, st, m);
-    a + header_size(p.opens) + piece_size(behind, st, m)
+    let m = n.min(65536);
+    piece_size(p.before, st, m) + header_size(p.opens) + piece_size(p.behind, st, m)
 }

@@ -4,7 +4,7 @@ ghost use Rattle.moves.specs.Stepped.{said, stepped};
 ghost use Rattle.scribe.specs.Held.{at_state};
 
 use crate::stepping::step_at;
-use moves::{Answer, Op, Style};
+use moves::{Op, Refusal, Style};
 
 #[derive(Drop)]
 pub struct Writer<'a> {
@@ -27,7 +27,12 @@ pub fn new<'a>(buf: &'a mut [u8]) -> Writer<'a>
 }
 
 // One step: the struct is taken apart and lent on, and takes what `step_at` says.
-pub fn step<'s, 'a, 't>(w: &'s mut Writer<'a>, op: Op, style: Style, text: &'t [u8]) -> Answer
+pub fn step<'s, 'a, 't>(
+    w: &'s mut Writer<'a>,
+    op: Op,
+    style: Style,
+    text: &'t [u8],
+) -> Result<usize, Refusal>
     ensures { (w.new ≡ at_state w.old (stepped op style text.now w.old.buf.now w.old.at w.old.top)) × (said result ≡ (stepped op style text.now w.old.buf.now w.old.at w.old.top).answer) }
 {
     let at = w.at;

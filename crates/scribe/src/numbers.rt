@@ -1,10 +1,11 @@
 // A writer's step by numbers: what a caller in C gives, as the types of `moves`, and the answer in one number.
-ghost use Rattle.std.specs.Prelude.{◌≡◌, ◌<◌, ◌^◌};
+ghost use Rattle.std.specs.Prelude.{◌≡◌, ℕ, ◌<◌, ◌^◌};
 ghost use Rattle.rules.specs.Answers.{coded};
-ghost use Rattle.moves.specs.Stepped.{said};
+ghost use Rattle.rules.specs.Result.{refused};
+ghost use Rattle.moves.specs.Stepped.{refusal, said};
 ghost use Rattle.scribe.specs.InC.{numbered, style_in};
 
-use moves::{Answer, Op, Style};
+use moves::{Op, Refusal, Style};
 
 // A number of the writer's state.
 pub fn from_state(n: u32) -> usize
@@ -16,7 +17,8 @@ pub fn from_state(n: u32) -> usize
 // The last step's number.
 pub const LAST_STEP: u8 = 19;
 
-// The step of a number; a larger number is the last one's too.
+// The step of a number; a larger number is the last one's too. No `From` of `u8`: it may stand beside `Op` alone, in `moves`, and the numbers are C's.
+#[tactic(auto, unfolding(crate::specs::InC::numbered, crate::specs::InC::steps_in_order))]
 pub fn numbered(step: u8) -> Op
     ensures { result ≡ numbered step }
 {
@@ -44,7 +46,8 @@ pub fn numbered(step: u8) -> Op
     }
 }
 
-// The style that 18 bytes say: a flag is set where its byte is not 0.
+// The style that 18 bytes say: a flag is set where its byte is not 0. No `From`, as above: `Style` stands in `moves`, and the bytes are C's.
+#[tactic(auto, unfolding(crate::specs::InC::style_in))]
 pub fn style_in(s: &[u8; 18]) -> Style
     ensures { result ≡ style_in s.now }
 {
@@ -67,13 +70,32 @@ pub fn style_in(s: &[u8; 18]) -> Style
     }
 }
 
+// A refusal's number and place.
+#[tactic(auto, unfolding(moves::specs::Stepped::refusal))]
+fn told(r: Refusal) -> (u64, usize)
+    ensures { refusal {A = ℕ} r ≡ refused result.0 result.1 }
+{
+    match r {
+        Refusal::TooLong(p) => (1, p),
+        Refusal::TooDeep(p) => (6, p),
+        Refusal::NotUtf8(p) => (7, p),
+        Refusal::BadStyle(p) => (8, p),
+        Refusal::QuoteInAnchor(p) => (9, p),
+        Refusal::BufferTooShort(needed) => (10, needed),
+        Refusal::NotAllowed(p) => (11, p),
+    }
+}
+
 // 256 times the count or the place, and the refusal's number, or 0.
-pub fn answer_in_one(a: Answer) -> u64
+pub fn answer_in_one(a: Result<usize, Refusal>) -> u64
     requires { coded (said a) < 2 ^ 64 }
     ensures { result ≡ coded (said a) }
 {
     match a {
-        Answer::Done(n) => (n as u64) * 256,
-        Answer::Refused(number, place) => (place as u64) * 256 + (number as u64),
+        Ok(n) => (n as u64) * 256,
+        Err(r) => {
+            let (number, place) = told(r);
+            (place as u64) * 256 + number
+        }
     }
 }

@@ -1,5 +1,6 @@
-// What each step does where it is allowed: what it puts, closes and opens.
-ghost use Rattle.std.specs.Prelude.{◌≡◌, ◌&&◌, ◌||◌, ◌≤◌, ◌/◌, ◌%◌, eqb};
+// What each step does where it is allowed: what it puts, closes and opens. A kind of what is open is a number and no enum: it is part of an unfinished header's
+// byte (docs/FORMAT, "While fields are open"), and the contracts of `fragment_here`, `text_here` and `depth_in` speak of every number.
+ghost use Rattle.std.specs.Prelude.{◌≡◌, ◌||◌, ◌≤◌, eqb};
 ghost use Rattle.moves.specs.Plans.{plan, fragment_here, depth_in, puts, shuts, opens, begins, next_plan, end_space_plan, end_comma_plan};
 
 use crate::opened::ROOT;
@@ -10,69 +11,44 @@ use rules::MOST_BLOCKS;
 pub const ANCHOR: u8 = 224;
 
 // The root, a block's fragment or an entry is open.
+#[tactic(auto, unfolding(moves::specs::Plans::fragment_here))]
 pub fn fragment_here(kind: usize) -> bool
     ensures { result ≡ fragment_here kind }
 {
-    if kind <= 2 {
-        return true;
-    }
-    kind == 8
-}
-
-pub fn both(a: bool, b: bool) -> bool
-    ensures { result ≡ (a && b) }
-{
-    if a {
-        return b;
-    }
-    false
+    kind <= 2 || kind == 8
 }
 
 // A text may stand there: a fragment or an anchor is open.
 pub fn text_here(kind: usize) -> bool
     ensures { result ≡ (fragment_here kind || eqb kind 7) }
 {
-    if kind == 7 {
-        return true;
-    }
-    fragment_here(kind)
+    fragment_here(kind) || kind == 7
 }
 
-// One of two kinds is open.
-pub fn one_of(kind: usize, a: usize, b: usize) -> bool
-    ensures { result ≡ (eqb kind a || eqb kind b) }
+// A block of either kind is open, and no fragment in it.
+pub fn block_here(kind: usize) -> bool
+    ensures { result ≡ (eqb kind 3 || eqb kind 4) }
 {
-    if kind == a {
-        return true;
-    }
-    kind == b
+    kind == 3 || kind == 4
 }
 
 // The blocks around the fragment that is open.
+#[tactic(auto, unfolding(moves::specs::Plans::depth_in))]
 pub fn depth_in(code: usize) -> usize
     requires { code ≤ 256 }
     ensures { (result ≡ depth_in code) × (result ≤ 32) }
 {
-    if code == ROOT {
-        return 0;
-    }
-    code % 32 + 1
+    if code == ROOT { 0 } else { code % 32 + 1 }
 }
 
+#[tactic(auto, unfolding(moves::specs::Plans::puts))]
 fn puts(allowed: bool, before: Piece) -> Plan
     ensures { result ≡ puts allowed before }
 {
-    Plan {
-        allowed,
-        before,
-        closes: 0,
-        opens: false,
-        code: 0,
-        too_deep: false,
-        behind: Piece::Nothing,
-    }
+    shuts(allowed, before, 0, Piece::Nothing)
 }
 
+#[tactic(auto, unfolding(moves::specs::Plans::shuts))]
 fn shuts(allowed: bool, before: Piece, closes: usize, behind: Piece) -> Plan
     ensures { result ≡ shuts allowed before closes behind }
 {
@@ -80,44 +56,42 @@ fn shuts(allowed: bool, before: Piece, closes: usize, behind: Piece) -> Plan
         allowed,
         before,
         closes,
-        opens: false,
-        code: 0,
+        opens: None,
         too_deep: false,
         behind,
     }
 }
 
+#[tactic(auto, unfolding(moves::specs::Plans::opens, moves::specs::Plans::shuts))]
 fn opens(allowed: bool, before: Piece, closes: usize, code: u8, behind: Piece) -> Plan
     ensures { result ≡ opens allowed before closes code behind }
 {
     Plan {
-        allowed,
-        before,
-        closes,
-        opens: true,
-        code,
-        too_deep: false,
-        behind,
+        opens: Some(code),
+        ..shuts(allowed, before, closes, behind)
     }
 }
 
 // A block of a kind, whose depth counts, behind what is put before it.
+#[tactic(auto, unfolding(moves::specs::Plans::begins, moves::specs::Plans::opens))]
 fn begins(allowed: bool, before: Piece, kind: usize, depth: usize) -> Plan
     requires { (kind ≤ 6) × (depth ≤ 32) }
     ensures { result ≡ begins allowed before kind depth }
 {
     Plan {
-        allowed,
-        before,
-        closes: 0,
-        opens: true,
-        code: (32 * kind + depth) as u8,
         too_deep: MOST_BLOCKS <= depth,
-        behind: Piece::Nothing,
+        ..opens(
+            allowed,
+            before,
+            0,
+            (32 * kind + depth) as u8,
+            Piece::Nothing,
+        )
     }
 }
 
 // The next entry of the join that is open, or its first.
+#[tactic(auto, unfolding(moves::specs::Plans::next_plan))]
 fn next_plan(kind: usize, around: u8) -> Plan
     requires { around ≤ 31 }
     ensures { result ≡ next_plan kind around }
@@ -131,6 +105,7 @@ fn next_plan(kind: usize, around: u8) -> Plan
     }
 }
 
+#[tactic(auto, unfolding(moves::specs::Plans::end_space_plan))]
 fn end_space_plan(kind: usize) -> Plan
     ensures { result ≡ end_space_plan kind }
 {
@@ -141,6 +116,7 @@ fn end_space_plan(kind: usize) -> Plan
     }
 }
 
+#[tactic(auto, unfolding(moves::specs::Plans::end_comma_plan))]
 fn end_comma_plan(kind: usize) -> Plan
     ensures { result ≡ end_comma_plan kind }
 {
@@ -152,6 +128,7 @@ fn end_comma_plan(kind: usize) -> Plan
 }
 
 // What the step does where the code says what is open; `own` where the open fragment has a node of its own.
+#[tactic(auto, unfolding(moves::specs::Plans::plan))]
 pub fn plan_of(op: Op, code: usize, own: bool) -> Plan
     requires { code ≤ 256 }
     ensures { result ≡ plan op code own }
@@ -159,7 +136,7 @@ pub fn plan_of(op: Op, code: usize, own: bool) -> Plan
     let kind = code / 32;
     let around = (code % 32) as u8;
     let here = fragment_here(kind);
-    let block = one_of(kind, 3, 4);
+    let block = block_here(kind);
     let depth = depth_in(code);
     match op {
         Op::Text => puts(text_here(kind), Piece::Run),
@@ -175,9 +152,9 @@ pub fn plan_of(op: Op, code: usize, own: bool) -> Plan
         Op::OpenFragment => opens(block, Piece::Nothing, 0, around, Piece::Nothing),
         Op::CloseFragment => shuts(kind == 0, Piece::Nothing, 1, Piece::Nothing),
         Op::BeginSpaceJoin => begins(here, Piece::Run, 5, depth),
-        Op::BeginSpaceJoinBehind => begins(both(here, own), Piece::Nothing, 5, depth),
+        Op::BeginSpaceJoinBehind => begins(here && own, Piece::Nothing, 5, depth),
         Op::BeginCommaJoin => begins(here, Piece::Run, 6, depth),
-        Op::BeginCommaJoinBehind => begins(both(here, own), Piece::Nothing, 6, depth),
+        Op::BeginCommaJoinBehind => begins(here && own, Piece::Nothing, 6, depth),
         Op::NextEntry => next_plan(kind, around),
         Op::EndSpaceJoin => end_space_plan(kind),
         Op::EndCommaJoin => end_comma_plan(kind),

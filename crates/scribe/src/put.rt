@@ -4,15 +4,15 @@ ghost use Rattle.rules.specs.Encode.{field};
 ghost use Rattle.scripts.specs.Shown.{open_header};
 ghost use Rattle.writing.specs.Written.{Written};
 
-use writing::{put, put_bytes};
+use writing::put_bytes;
 
 // A tag or a code, and a number of two bytes behind it, high byte first.
 pub fn put_header(page: &mut [u8], at: usize, tag: u8, n: usize) -> usize
     requires { n < 65_536 }
     ensures { Written page.old at (open_header tag n) page.new result }
 {
-    let header = [tag, (n / 256) as u8, (n % 256) as u8];
-    put_bytes(page, at, &header)
+    let [high, low] = (n as u16).to_be_bytes();
+    put_bytes(page, at, &[tag, high, low])
 }
 
 // A field whose value is bytes.

@@ -1,4 +1,5 @@
-// What a text's style says, as a writer is given it: the values of fields 32 to 39 as the file has them, each beside its flag.
+// What a text's style says, as a writer is given it: the values of fields 32 to 39 as the file has them, each beside its flag. Sizes and bytes are two walks over
+// these fields and not one over a closure: a size is a sum and a put has a place, so all that the two would share is the order of eight lines.
 ghost use Rattle.std.specs.Prelude.{◌≡◌, ◌<◌, ◌≤◌, length};
 ghost use Rattle.scripts.specs.Shown.{run_bytes};
 ghost use Rattle.writing.specs.Written.{Written};
@@ -8,6 +9,7 @@ use crate::put::{put_field, put_header};
 use moves::Style;
 
 // The bytes of a field that is there or not.
+#[tactic(auto, unfolding(moves::specs::Style::part_size))]
 fn part_size(there: bool, v: &[u8]) -> usize
     requires { length v.now ≤ 4 }
     ensures { (result ≡ part_size there (length v.now)) × (result ≤ 7) }
@@ -53,6 +55,7 @@ pub fn style_size(st: Style) -> usize
 }
 
 // A field that is there or not.
+#[tactic(auto, unfolding(moves::specs::Style::part))]
 fn put_part(page: &mut [u8], at: usize, there: bool, tag: u8, v: &[u8]) -> usize
     requires { length v.now < 65_536 }
     ensures { Written page.old at (part there tag v.now) page.new result }

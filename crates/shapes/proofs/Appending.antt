@@ -1,13 +1,18 @@
 -- Capped sums.
-use Rattle.rules.proofs.Basics.{◌≡◌, ap, Bool, true, false, ℕ, ◌+◌, ◌/◌, ◌%◌, ◌≤◌, ◌<◌, arith, le-leb, lt-leb}
+use Rattle.rules.proofs.Basics.{◌≡◌, sym, ◌∙◌, min, ap, Bool, true, false, ℕ, ◌+◌, ◌/◌, ◌%◌, ◌≤◌, ◌<◌, arith, le-leb, lt-leb}
 use Rattle.rules.specs.Limits.{most_tenths}
 use Rattle.rules.specs.Bytes.{cap}
+use Rattle.rules.proofs.Stretches.{cap_min}
 use Rattle.rules.specs.Layout.{Inline, Block, ◌⊕◌}
 use Rattle.shapes.specs.Shapes.{is_block, first, second, of_widths, shape}
 
 pub cap_under : (n : ℕ) → n ≤ most_tenths → cap n ≡ n
 unfolding cap
 cap_under n h = rw (le-leb n most_tenths h)
+
+-- a sum as the code's `saturating_add` says it
+pub saturated : {r : ℕ} (n : ℕ) → r ≡ min n 65_535 → r ≡ cap n
+saturated n e = e ∙ sym (cap_min n)
 
 pub cap_over : (n : ℕ) → most_tenths < n → cap n ≡ most_tenths
 unfolding cap

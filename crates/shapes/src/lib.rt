@@ -2,12 +2,9 @@
 
 #![tactic(auto)]
 
-ghost use Rattle.std.specs.Prelude.{◌≡◌, ◌+◌, ◌-◌};
-ghost use Rattle.rules.specs.Bytes.{cap};
+ghost use Rattle.std.specs.Prelude.{◌≡◌};
 ghost use Rattle.rules.specs.Layout.{Inline, Block, ◌⊕◌};
 ghost use Rattle.shapes.specs.Shapes.{is_block, first, second, shape};
-
-use rules::MOST_TENTHS;
 
 // A layout in one number, which is handed on at every node faster than an enum with widths in it. Part of a line: its width times 65,536, and
 // how much of that comes from texts that stand only in a block. Several lines, from 2^32 on: so much on the first, so much on the last.
@@ -19,38 +16,18 @@ const FIRST: usize = 0x1_0000;
 // The weight of the mark of several lines.
 const BLOCK: usize = 0x1_0000_0000;
 
-// A sum of widths, capped.
-pub fn saturating_add(a: u16, b: u16) -> u16
-    ensures { result ≡ cap (a + b) }
-{
-    if MOST_TENTHS - a < b {
-        return MOST_TENTHS;
-    }
-    a + b
-}
-
-// A difference of widths, which stops at 0.
-pub fn saturating_sub(a: u16, b: u16) -> u16
-    ensures { result ≡ a - b }
-{
-    if a < b {
-        return 0;
-    }
-    a - b
-}
-
 // Part of a line.
 pub fn inline(worst: u16, excess: u16) -> ApproxLayout
     ensures { shape result ≡ Inline worst excess }
 {
-    (worst as usize) * FIRST + (excess as usize)
+    usize::from(worst) * FIRST + usize::from(excess)
 }
 
 // Several lines.
 pub fn block_or_mixed(pre: u16, post: u16) -> ApproxLayout
     ensures { shape result ≡ Block pre post }
 {
-    BLOCK + (pre as usize) * FIRST + (post as usize)
+    BLOCK + usize::from(pre) * FIRST + usize::from(post)
 }
 
 // Whether a layout has several lines.
@@ -79,11 +56,11 @@ fn append_to_inline(worst: u16, excess: u16, b: ApproxLayout) -> ApproxLayout
     ensures { shape result ≡ Inline worst excess ⊕ shape b }
 {
     if is_block(b) {
-        return block_or_mixed(saturating_add(worst, first(b)), second(b));
+        return block_or_mixed(worst.saturating_add(first(b)), second(b));
     }
     inline(
-        saturating_add(worst, first(b)),
-        saturating_add(excess, second(b)),
+        worst.saturating_add(first(b)),
+        excess.saturating_add(second(b)),
     )
 }
 
@@ -94,7 +71,7 @@ fn append_to_block(pre: u16, post: u16, b: ApproxLayout) -> ApproxLayout
     if is_block(b) {
         return block_or_mixed(pre, second(b));
     }
-    block_or_mixed(pre, saturating_add(post, first(b)))
+    block_or_mixed(pre, post.saturating_add(first(b)))
 }
 
 // What two pieces take up, one after the other.

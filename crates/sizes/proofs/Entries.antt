@@ -28,9 +28,9 @@ same_eq a b t =
     λ i. record { negative = n i; whole = w i; places = p i }
 
 -- THE TEST: each entry is the em size that the rules find, by `em_right` the shortest decimal of its rounded double
-unfoldable pub test : (wholes places : List ℕ) → Bool
-test wholes places = every (λ z. same (decimal_at wholes places z (place_of z)) (em z))
+unfoldable pub test : (table : List (ℕ × ℕ)) → Bool
+test table = every (λ z. same (decimal_at table z (place_of z)) (em z))
 
-pub tested : (wholes places : List ℕ) → T (test wholes places) → Right wholes places
+pub tested : (table : List (ℕ × ℕ)) → T (test table) → Right table
 unfolding test
-tested wholes places t = record { each = λ z a. same_eq _ _ (at_size (λ z. same (decimal_at wholes places z (place_of z)) (em z)) t z a) }
+tested table t = record { each = λ z a. same_eq _ _ (at_size (λ z. same (decimal_at table z (place_of z)) (em z)) t z a) }

@@ -11,9 +11,9 @@ place_of (pos n) = 128 + n
 place_of (negsuc n) = 127 - n
 
 -- what the table says of the size z that stands at the place i: from -11 downwards it is below zero
-unfoldable pub decimal_at : (wholes places : List ℕ) → ℤ → ℕ → Decimal
-decimal_at wholes places z i = record { negative = lt_z z (negsuc 9); whole = get_or wholes i 0; places = get_or places i 0 }
+unfoldable pub decimal_at : (table : List (ℕ × ℕ)) → ℤ → ℕ → Decimal
+decimal_at table z i = record { negative = lt_z z (negsuc 9); whole = (get_or table i (0, 0)).0; places = (get_or table i (0, 0)).1 }
 
 -- the table is right: of each accepted size it says what the rules find
-pub record Right (wholes places : List ℕ) : Type 0 where
-  pub each : (z : ℤ) → AcceptedSize z → decimal_at wholes places z (place_of z) ≡ em z
+pub record Right (table : List (ℕ × ℕ)) : Type 0 where
+  pub each : (z : ℤ) → AcceptedSize z → decimal_at table z (place_of z) ≡ em z

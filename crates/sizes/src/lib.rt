@@ -10,35 +10,28 @@ ghost use Rattle.digits.specs.Said.{decimal_of};
 mod table;
 
 use digits::Decimal;
-use table::{PLACES, WHOLES};
+use table::TABLE;
 
 // Where a size stands in the table.
 fn place(size: i8) -> usize
     requires { size ≤ℤ pos 117 }
     ensures { result ≡ place_of size }
 {
-    (size as i16 + 128) as usize
-}
-
-// A byte as a number.
-fn wide(b: u8) -> u64
-    ensures { result ≡ b }
-{
-    b as u64
+    usize::from(size.abs_diff(i8::MIN))
 }
 
 // What a right table says of a size; from -11 downwards it is below zero. The table is a parameter so that the proof can speak of it: that the
 // constants are right is then one fact, in the proof of `em`.
-fn entry(wholes: &[u64; 246], places: &[u8; 246], size: i8) -> Decimal
-    requires right { Right wholes.now places.now }
+fn entry(table: &[(u64, u8); 246], size: i8) -> Decimal
+    requires right { Right table.now }
     requires size_bound { size ≤ℤ pos 117 }
     ensures { decimal_of result ≡ rules.em size }
 {
-    let i = place(size);
+    let (whole, places) = table[place(size)];
     Decimal {
         negative: size < -10,
-        whole: wholes[i],
-        places: wide(places[i]),
+        whole,
+        places: u64::from(places),
     }
 }
 
@@ -47,5 +40,5 @@ pub fn em(size: i8) -> Decimal
     requires { size ≤ℤ pos 117 }
     ensures { decimal_of result ≡ rules.em size }
 {
-    entry(&WHOLES, &PLACES, size)
+    entry(&TABLE, size)
 }

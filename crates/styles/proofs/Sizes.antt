@@ -1,42 +1,66 @@
 -- Sizes: signed bytes, the width of a byte at one, and the effective size of a style record.
-use Rattle.rules.proofs.Basics.{◌≡◌, refl, sym, ap, ◌∙◌, none, some, Bool, true, false, ◌||◌, false≢true, ℕ, suc, ◌+◌, ◌-◌, ◌<◌, ◌≤◌, ◌^◌, arith, T, leb, ltb, eqb, ltb→lt, eqb→eq, ltb-true, ℤ, pos, negsuc, ◌+ℤ◌, ◌-ℤ◌, nat_abs, le-ltb, le-leb}
-use lib.Signed.{mag, le_z, lt_z, non_neg}
+use Rattle.std.specs.Prelude.{Some, None, if◌then◌else◌}
+use Rattle.rules.proofs.Basics.{◌≡◌, refl, sym, ap, ◌∙◌, List, none, some, Bool, true, false, ◌||◌, ℕ, suc, ◌+◌, ◌-◌, ◌^◌, arith, ltb, eqb, ltb→lt, eqb→eq, eq-eqb, ne_eqb, length, get_or, ℤ, pos, negsuc, ◌+ℤ◌}
+use Rattle.std.specs.Int.{int_max}
+use lib.Signed.{le_z}
 use mir.Syntax.{w8, w16}
-use mir.Val.{SFits, Fits, to_z, of_z}
-use mir.Facts.{to_z-of_z, Fits-nat_abs}
+use mir.Val.{SFits, Fits, to_z, of_z, sel}
+use mir.Facts.{to_z-of_z}
 use Rattle.rules.specs.Digits.{signed}
-use Rattle.rules.specs.Walk.{right_size}
+use Rattle.rules.specs.Walk.{right_length, right_size}
+use Rattle.rules.specs.Tree.{signed_byte}
 use Rattle.rules.specs.Layout.{or_script, effective, not_negative, byte_width}
+use Rattle.rules.proofs.Lengths.{number_one}
+use Rattle.rules.proofs.Words.{size_test}
 use Rattle.styles.specs.declared.Styles.{Styles}
 use Rattle.styles.specs.Said.{flagged, said_styles, is_there}
-use Rattle.rules.proofs.Words.{size_test}
-use Rattle.styles.proofs.EveryByte.{of_byte, of_signed_byte, fitting}
+use Rattle.styles.specs.StylesIn.{right_value, given_size}
+use Rattle.styles.proofs.EveryByte.{of_signed_byte}
 
--- ---- a byte as a signed one: below 128 itself, else 256 less
+-- ---- a byte as a signed one
 
-abbrev less : ℕ → ℤ
-less b = to_z w16 b -ℤ pos 256
+pub signed_is : (b : ℕ) → to_z w8 b ≡ signed b
+unfolding signed
+signed_is b = go (ltb b 128)
+  where
+    go : (t : Bool) → sel t (pos b) (negsuc (256 - suc b)) ≡ (if t then pos b else negsuc (255 - b))
+    go true = refl
+    go false = ap negsuc (omega arith)
 
-abbrev stored : ℕ → ℤ
-stored b = to_z w16 (of_z w16 (less b))
+-- ---- the size that a field 35 says
 
-module _ (b : ℕ) (h : b < 256) (l : 128 ≤ b) where
-  pub less_fits : SFits w16 (less b)
-  less_fits = record { sfits = ltb→lt _ _ (of_byte (leb 128) (λ b. ltb (mag (less b)) (2 ^ 15)) tt b h (le-leb 128 b l)) }
+module _ (v : List ℕ) {z : ℤ} (l : length v ≡ 1) (f : SFits w8 z) (e : z ≡ to_z w8 (get_or v 0 0)) where
+  -- its test, as it is stored, is the one of the size's byte
+  tested : {r : Bool} → le_z (to_z w8 (of_z w8 z)) (pos 117) ≡ r → right_size (get_or v 0 0) ≡ r
+  tested t = sym (size_test (get_or v 0 0)) ∙ ap (λ (x : ℤ). le_z x (pos 117)) (sym (to_z-of_z f ∙ e ∙ signed_is (get_or v 0 0))) ∙ t
 
-  pub stored_fits : SFits w8 (stored b)
-  stored_fits = record { sfits = ltb→lt _ _ (of_byte (leb 128) (λ b. ltb (mag (stored b)) (2 ^ 7)) tt b h (le-leb 128 b l)) }
+  pub size_counts : le_z (to_z w8 (of_z w8 z)) (pos 117) ≡ true → Some (to_z w8 (of_z w8 z)) ≡ given_size v
+  unfolding given_size right_value right_length signed_byte
+  size_counts t = rw (eq-eqb (length v) 1 l, ← number_one v l, tested t) (ap Some (to_z-of_z f ∙ e ∙ signed_is (get_or v 0 0)))
 
-  pub high_byte : to_z w8 (of_z w8 (stored b)) ≡ signed b
-  unfolding signed
-  high_byte =
-      let same : of_z w8 (stored b) ≡ b = eqb→eq _ _ (of_byte (leb 128) (λ b. eqb (of_z w8 (stored b)) b) tt b h (le-leb 128 b l)) in
-      let n : 256 - suc b ≡ 255 - b = omega arith in
-      ap (to_z w8) same ∙ rw (le-ltb b 128 l, n)
+  pub size_too_large : le_z (to_z w8 (of_z w8 z)) (pos 117) ≡ false → None ≡ given_size v
+  unfolding given_size right_value right_length
+  size_too_large t = rw (eq-eqb (length v) 1 l, ← number_one v l, tested t)
 
--- a test of a size as it is stored that is the one against the largest: it is the test of the size's byte
-pub size_tested : (z : ℤ) (b : ℕ) {t r : Bool} → SFits w8 z → z ≡ signed b → t ≡ r → t ≡ le_z (to_z w8 (of_z w8 z)) (pos 117) → right_size b ≡ r
-size_tested z b f e t m = sym (size_test b) ∙ ap (λ (x : ℤ). le_z x (pos 117)) (sym (to_z-of_z f ∙ e)) ∙ sym m ∙ t
+pub no_size : (v : List ℕ) → (length v ≡ 1 → ⊥) → None ≡ given_size v
+unfolding given_size right_value right_length
+no_size v n = rw (ne_eqb (length v) 1 n)
+
+pub size_given : (v : List ℕ) {z : ℤ} → given_size v ≡ Some z → (right_value 35 v ≡ true) × (z ≡ signed_byte v)
+unfolding given_size
+size_given v {z} e = go (right_value 35 v) refl e
+  where
+    go : (b : Bool) → right_value 35 v ≡ b → (if b then Some (signed_byte v) else None) ≡ Some z → (right_value 35 v ≡ true) × (z ≡ signed_byte v)
+    go true q e = (q, cc)
+    go false q e = let n : ◌≡◌ {A = ℕ} 0 1 = cc in absurd (omega arith)
+
+pub no_size_given : (v : List ℕ) → given_size v ≡ None → right_value 35 v ≡ false
+unfolding given_size
+no_size_given v e = go (right_value 35 v) refl e
+  where
+    go : (b : Bool) → right_value 35 v ≡ b → (if b then Some (signed_byte v) else None) ≡ None → right_value 35 v ≡ false
+    go true q e = let n : ◌≡◌ {A = ℕ} 0 1 = cc in absurd (omega arith)
+    go false q e = q
 
 -- ---- the width of a byte at a size: ten and the size, taken at 16 bits
 
@@ -47,40 +71,13 @@ held z = to_z w8 (of_z w8 z)
 abbrev wide : ℤ → ℤ
 wide z = to_z w16 (of_z w16 z)
 
-abbrev sum : ℤ → ℤ
-sum z = pos 10 +ℤ wide (held z)
+abbrev from_zero : ℤ → ℤ
+from_zero z = int_max (wide (pos 10 +ℤ wide z)) (pos 0)
 
-nothing_left : (z : ℤ) → lt_z z (pos 0) ≡ true → 0 ≡ not_negative z
-unfolding not_negative
-nothing_left (pos n) e = absurd (omega (arith, ltb-true n 0 e))
-nothing_left (negsuc n) e = refl
-
-from_zero : (z : ℤ) → lt_z z (pos 0) ≡ false → T (non_neg z) × (nat_abs z ≡ not_negative z)
-unfolding not_negative
-from_zero (pos n) e = (tt, refl)
-from_zero (negsuc n) e = absurd (false≢true (sym e))
-
-module _ {z : ℤ} (f : SFits w8 z) where
-  pub held_fits : SFits w16 (held z)
-  held_fits = fitting w16 held tt z f
-
-  pub sum_fits : SFits w16 (sum z)
-  sum_fits = fitting w16 sum tt z f
-
-  sum_is : wide (sum z) ≡ pos 10 +ℤ z
-  sum_is = to_z-of_z sum_fits ∙ ap (λ (y : ℤ). pos 10 +ℤ y) (to_z-of_z held_fits ∙ to_z-of_z f)
-
-  pub no_width : lt_z (wide (sum z)) (pos 0) ≡ true → 0 ≡ byte_width (some z)
-  unfolding byte_width
-  no_width e = nothing_left (pos 10 +ℤ z) (rw sum_is at e)
-
-  module _ (e : lt_z (wide (sum z)) (pos 0) ≡ false) where
-    pub width_casts : T (non_neg (wide (sum z))) × Fits w16 (nat_abs (wide (sum z)))
-    width_casts = ((from_zero (wide (sum z)) e).0, rw (to_z-of_z sum_fits) (Fits-nat_abs tt sum_fits))
-
-    pub width_is : nat_abs (wide (sum z)) ≡ byte_width (some z)
-    unfolding byte_width
-    width_is = (from_zero (wide (sum z)) e).1 ∙ ap not_negative sum_is
+pub width_is : {z y m : ℤ} {r : ℕ} → SFits w8 z → y ≡ held z → m ≡ from_zero y → r ≡ of_z w16 (wide m) → r ≡ byte_width (some z)
+unfolding byte_width not_negative
+width_is {z} f h g e =
+    e ∙ rw (g, h) (eqb→eq _ _ (of_signed_byte (λ z. eqb (of_z w16 (wide (from_zero (held z)))) (byte_width (some z))) tt z f))
 
 -- the width at a size that was handed on through its bits
 module _ {z : ℤ} (f : SFits w8 z) {w : ℕ} (e : w ≡ byte_width (some (held z))) where

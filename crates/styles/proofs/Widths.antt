@@ -1,44 +1,54 @@
 -- The width of one byte, read alone: what a field makes of it, and the walk over the fields.
-use Rattle.std.specs.Prelude.{if◌then◌else◌}
-use Rattle.rules.proofs.Basics.{◌≡◌, refl, sym, ap, ◌∙◌, List, Option, none, some, Bool, true, false, ◌||◌, ℕ, suc, ◌+◌, ◌-◌, ◌%◌, ◌≤◌, ◌<◌, arith, ltb, eqb, leb→le, ℤ, pos, negsuc, length, take, drop, get_or, eq-eqb, ne_eqb, le-ltb}
+use Rattle.std.specs.Prelude.{Some, None, if◌then◌else◌}
+use Rattle.rules.proofs.Basics.{◌≡◌, refl, sym, ap, ◌∙◌, List, Option, none, some, Bool, true, false, ◌||◌, ℕ, suc, ◌+◌, ◌-◌, ◌%◌, ◌≤◌, ◌<◌, arith, ltb, eqb, leb→le, eqb-false, ℤ, pos, negsuc, take, drop, eq-eqb, ne_eqb, le-ltb}
 use mathlib.Core.Bool.{cond}
-use Rattle.rules.specs.Digits.{signed}
-use Rattle.rules.specs.Walk.{right_length, right_size}
 use Rattle.rules.specs.Tree.{Styles, signed_byte}
 use Rattle.rules.specs.Layout.{or_script, effective, not_negative, byte_width}
 use Rattle.fields.specs.declared.Field.{Field}
 use Rattle.fields.specs.declared.Field.TheVariants.{Whole}
 use Rattle.fields.specs.FieldAt.{field_at}
+use denote.Bor.{Bor}
+use Rattle.styles.specs.Ran.{Ran}
+use Rattle.styles.specs.Ran.Ran.{stopped, went}
 use Rattle.styles.specs.Said.{AllowedSize}
-use Rattle.styles.specs.StylesIn.{no_styles, right_value, put_part, with_field, styles_in}
+use Rattle.styles.specs.StylesIn.{no_styles, right_value, given_size, put_part, with_field, styles_in}
 use Rattle.styles.proofs.StylesWritable.{effective_allowed, styles_writable}
-use Rattle.styles.specs.WidthIn.{sized, measure, script, width_with}
-use Rattle.rules.proofs.Lengths.{number_one}
-use Rattle.styles.proofs.Parts.{either}
-use Rattle.styles.proofs.Reading.{Left, all_left, next_left, stopped, ended}
+use Rattle.styles.specs.WidthIn.{sized, measure, script, script_with, width_with}
+use Rattle.styles.proofs.Sizes.{size_given, no_size_given}
+use Rattle.styles.proofs.Parts.{either, flag_counts}
+use Rattle.styles.proofs.Reading.{Left, all_left, next_left, halted}
 
 -- ---- a size
 
-module _ (n : ℕ) (v : List ℕ) (l : length v ≡ 1) where
-  pub size_put : right_size (get_or v 0 0) ≡ true → {w : ℕ} → w ≡ byte_width (some (signed (get_or v 0 0))) → 256 + w ≡ width_with n 35 v
-  unfolding width_with right_value right_length signed_byte
-  size_put r e = rw (eq-eqb (length v) 1 l, ← number_one v l, r) (ap (λ (w : ℕ). 256 + w) e)
+-- one that counts, and none
+module _ (n : ℕ) (v : List ℕ) where
+  pub size_put : {z : ℤ} → given_size v ≡ Some z → {w : ℕ} → w ≡ byte_width (some z) → 256 + w ≡ width_with n 35 v
+  unfolding width_with
+  size_put g e = let (right, is) = size_given v g in rw (right, ← is) (ap (λ (w : ℕ). 256 + w) e)
 
-  -- one that is not allowed
-  pub size_passed : right_size (get_or v 0 0) ≡ false → n ≡ width_with n 35 v
-  unfolding width_with right_value right_length
-  size_passed r = rw (eq-eqb (length v) 1 l, ← number_one v l, r)
-
--- a value of another length
-pub other_length : (n : ℕ) (v : List ℕ) → (length v ≡ 1 → ⊥) → n ≡ width_with n 35 v
-unfolding width_with right_value right_length
-other_length n v l = rw (ne_eqb (length v) 1 l)
+  pub size_passed : given_size v ≡ None → n ≡ width_with n 35 v
+  unfolding width_with
+  size_passed g = rw (no_size_given v g)
 
 -- any other tag
 pub other_width : (n t : ℕ) (v : List ℕ) → (t ≡ 35 → ⊥) → (t ≡ 36 → ⊥) → (t ≡ 37 → ⊥) → n ≡ width_with n t v
 unfolding width_with
 other_width n t v n35 n36 n37 =
     rw (ne_eqb 35 t (λ e. n35 (sym e)), ne_eqb 36 t (λ e. n36 (sym e)), ne_eqb 37 t (λ e. n37 (sym e))) (either (right_value t v))
+
+or_of : (a b : Bool) → (a ≡ false → b ≡ true) → (a || b) ≡ true
+or_of true b h = refl
+or_of false b h = h refl
+
+-- the tag of a script
+pub script_put : (n t : ℕ) (v : List ℕ) {r : ℕ} → r ≡ script_with n v → 36 ≤ t → t ≤ 37 → r ≡ width_with n t v
+unfolding script_with width_with
+script_put n t v e l h =
+    e ∙ rw (
+      flag_counts t v l (omega arith) refl refl,
+      ne_eqb 35 t (λ z. omega arith),
+      or_of (eqb 36 t) (eqb 37 t) (λ z. eq-eqb 37 t (omega (arith, eqb-false 36 t z))),
+    )
 
 -- ---- the number of a style
 
@@ -110,7 +120,13 @@ module _ {v : List ℕ} {at w : ℕ} (m : Measured v at w) where
   }
 
   pub measured_stopped : {f : Field} → f ≡ field_at v at → ((t from to : ℕ) → f ≡ Whole t from to → ⊥) → w % 256 ≡ byte_width (effective (styles_in v))
-  measured_stopped e n = told v m.width (stopped v at m.style _ e n m.left)
+  measured_stopped e n = told v m.width (halted v at m.style _ e n m.left)
 
-  pub measured_ended : length v ≤ at → w % 256 ≡ byte_width (effective (styles_in v))
-  measured_ended h = told v m.width (ended v at m.style h m.left)
+-- steps that put each field in
+module _ {v : List ℕ} {R : ℕ → ℕ → Bor (List ℕ) → ℕ → Type 0} (puts : (w t : ℕ) (x : Bor (List ℕ)) (r : ℕ) → R w t x r → r ≡ width_with w t x.now) where
+  ran_from : {at w r : ℕ} → Ran R v at w r → Measured v at w → r % 256 ≡ byte_width (effective (styles_in v))
+  ran_from (stopped n) m = measured_stopped m refl n
+  ran_from {w = w} (went {t = t} {b = b} {x = x} e q p rest) m = ran_from rest (measured_next m refl e (rw (← q) (puts w t x b p)))
+
+  pub ran : {r : ℕ} → Ran R v 0 10 r → r % 256 ≡ byte_width (effective (styles_in v))
+  ran w = ran_from w (measured_start v)

@@ -2,3 +2,4 @@
 pub mod Said
 pub mod StylesIn
 pub mod WidthIn
+pub mod Ran

@@ -1,5 +1,6 @@
 -- What the fields of some bytes make of a style, put in from the front.
-use Rattle.std.specs.Prelude.{List, ◌≡◌, Bool, false, ◌&&◌, ◌||◌, ℕ, zero, suc, ◌-◌, eqb, length, take, drop, if◌then◌else◌}
+use Rattle.std.specs.Prelude.{List, ◌≡◌, Bool, false, ◌&&◌, ◌||◌, ℕ, zero, suc, ◌-◌, eqb, length, take, drop, ℤ, Some, None, if◌then◌else◌}
+use Rattle.std.specs.Prelude as code
 use Rattle.std.proofs.Math.Option.{none, some}
 use Rattle.rules.specs.Bytes.{number}
 use Rattle.rules.specs.Walk.{right_length, right_opacity, right_size}
@@ -27,6 +28,10 @@ right_value t v =
     if eqb t 33 then right_length t (length v) && right_opacity (number v) else
     if eqb t 35 then right_length t (length v) && right_size (number v) else
     right_length t (length v)
+
+-- the size that a field 35 says, where it counts
+unfoldable pub given_size : List ℕ → code.Option ℤ
+given_size v = if right_value 35 v then Some (signed_byte v) else None
 
 -- a field put into a style: the part that its tag speaks of
 unfoldable pub put_part : Styles → ℕ → List ℕ → Styles

@@ -2,34 +2,31 @@
 
 #![tactic(auto)]
 
-use answers::told;
-use rules::{Answer, Refusal};
+use answers::Numbered;
+use rules::Refusal;
 use std::io;
 
 // `refused N at P`, with no line end.
 pub fn tell_refusal(rt: &impl Print, r: Refusal) -> io::Result<()> {
-    let t = told(r);
-    print!(rt; "refused {} at {}", t.number, t.place)
+    print!(rt; "{}", Numbered::from(r))
 }
 
 // `accepted N`, or the refusal, with no line end.
-pub fn tell(rt: &impl Print, answer: Answer) -> io::Result<()> {
+pub fn tell(rt: &impl Print, answer: Result<usize, Refusal>) -> io::Result<()> {
     match answer {
-        Answer::Done(n) => print!(rt; "accepted {n}"),
-        Answer::Refused(r) => tell_refusal(rt, r),
+        Ok(n) => print!(rt; "accepted {n}"),
+        Err(r) => tell_refusal(rt, r),
     }
 }
 
 // The bytes in hex after a space; of no bytes, nothing.
 pub fn tell_bytes(rt: &impl Print, s: &[u8]) -> io::Result<()> {
-    if s.len() == 0 {
+    if s.is_empty() {
         return Ok(());
     }
     print!(rt; " ")?;
-    let mut at = 0;
-    while at < s.len() {
-        print!(rt; "{:02x}", s[at])?;
-        at += 1;
+    for b in s {
+        print!(rt; "{b:02x}")?;
     }
     Ok(())
 }

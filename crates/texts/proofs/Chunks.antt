@@ -1,44 +1,11 @@
--- A chunk of bytes: whether it has a newline, and how it is passed.
-use Rattle.rules.proofs.Basics.{◌≡◌, refl, sym, ◌∙◌, List, [], ◌∷◌, Bool, true, false, ◌||◌, or-true, or-false, ℕ, zero, suc, ◌+◌, ◌-◌, ◌≤◌, ◌<◌, arith, add-one, eqb, length, take, drop, get_or, drop_of_length-le, length-drop, drop-cons, drop-drop, take_all, eq-eqb, ne_eqb}
+-- Bytes without a newline, and how they are passed.
+use Rattle.rules.proofs.Basics.{◌≡◌, refl, sym, List, [], ◌∷◌, Bool, true, false, ◌||◌, ℕ, zero, suc, ◌+◌, ◌-◌, ◌≤◌, ◌<◌, arith, eqb, length, take, drop, get_or, drop_of_length-le, eq-eqb, eqb-false, ltb, ltb-true, ltb-false}
 use lib.Seq.{take-length}
 use Rattle.rules.specs.Bytes.{has}
 use Rattle.rules.specs.Layout.{parts}
+use Rattle.looks.specs.Calm.{Clear}
 use Rattle.texts.specs.FirstLine.{first_long, Passed}
-use Rattle.texts.proofs.Passing.{first_other}
-
--- ---- the bytes of a chunk
-
--- the loop stands at i, and a newline was found before exactly if b
-pub record Looked (v : List ℕ) (i : ℕ) (b : Bool) : Type 0 where
-  pub inside : i ≤ length v
-  pub further : (b || has 10 (drop i v)) ≡ has 10 v
-
-pub none_looked : (v : List ℕ) → Looked v 0 false
-none_looked v = record { inside = omega arith; further = refl }
-
-module _ {v : List ℕ} {i : ℕ} {b : Bool} (l : Looked v i b) where
-  pub there : {r : Bool} → i < length v → get_or v i 0 ≡ 10 → r ≡ true → Looked v (i + 1) r
-  unfolding has
-  there h e q = rw (q, add-one) record {
-    inside = h;
-    further = rw (drop-cons v i 0 h, eq-eqb 10 (get_or v i 0) (sym e), or-true b) at l.further;
-  }
-
-  pub not_there : {r : Bool} → i < length v → (get_or v i 0 ≡ 10 → ⊥) → r ≡ b → Looked v (i + 1) r
-  unfolding has
-  not_there h e q = rw (q, add-one) record {
-    inside = h;
-    further = rw (drop-cons v i 0 h, ne_eqb 10 (get_or v i 0) (λ q. e (sym q))) at l.further;
-  }
-
-  pub all_looked : length v ≤ i → b ≡ has 10 v
-  unfolding has
-  all_looked h = rw (drop_of_length-le v h, or-false b) at l.further
-
--- ---- chunk by chunk
-
-pub none_passed : (v : List ℕ) → Passed v 0
-none_passed v = record { inside = omega arith; further = omega arith }
+use Rattle.texts.proofs.Passing.{first_other, passed, found, none_found}
 
 not_first : (n m : ℕ) (b : Bool) → (eqb n m || b) ≡ false → m ≡ n → ⊥
 not_first n m b e q =
@@ -67,35 +34,32 @@ no_newline s e =
     let z : first_long (drop (length s) s) ≡ 0 = rw (drop_of_length-le s {i = length s} (omega arith)) in
     omega (arith, o, z)
 
-pub chunk_passed : {v : List ℕ} {at : ℕ} → Passed v at → (n : ℕ) → n ≤ length v - at → {r : Bool}
-    → r ≡ has 10 (take (at + n - at) (drop at v)) → r ≡ false → Passed v (at + n)
-chunk_passed {v} {at} p n l e f =
-    let k : at + n - at ≡ n = omega arith in
-    let o : first_long (drop at v) ≡ n + first_long (drop n (drop at v)) =
-    over n (drop at v) (omega (arith, length-drop at v)) (rw k at (sym e ∙ f)) in
-    record {
-      inside = omega (arith, p.inside);
-      further = rw (← drop-drop n at v) (omega (arith, p.further));
-    }
+-- ---- bytes in which the test finds none
 
--- ---- the last window, which may begin before
+pub none_passed : (v : List ℕ) → Passed v 0
+none_passed v = record { inside = omega arith; further = omega arith }
 
-has_later : (n : ℕ) (s : List ℕ) → has 10 s ≡ false → has 10 (drop n s) ≡ false
-unfolding has
-has_later zero s e = e
-has_later (suc n) [] e = e
-has_later (suc n) (x ∷ s) e = has_later n s (not_later (eqb 10 x) (has 10 s) e)
+module _ {P : ℕ → Type 0} (tells : (b : ℕ) → P b → eqb b 10 ≡ false) {v : List ℕ} where
+  -- n of them
+  passed_by : (n at : ℕ) → Passed v at → at + n ≤ length v → Clear P v at (at + n) → Passed v (at + n)
+  passed_by zero at p h C = let e : at + 0 ≡ at = omega arith in rw e p
+  passed_by (suc n) at p h C =
+      let e : at + suc n ≡ at + 1 + n = omega arith in
+      let one : Passed v (at + 1) = passed p (omega arith) (eqb-false (get_or v at 0) 10 (tells (get_or v at 0) (C.each at (omega arith) (omega arith)))) in
+      rw e (passed_by n (at + 1) one (omega arith) (record { each = λ k a b. C.each k (omega (arith, a)) (omega (arith, b)) }))
 
-pub end_passed : {v : List ℕ} {at : ℕ} → Passed v at → (n : ℕ) → n ≤ length v → length v - n ≤ at → {r : Bool}
-    → r ≡ has 10 (take (length v - n + n - (length v - n)) (drop (length v - n) v)) → r ≡ false → Passed v (length v)
-unfolding first_long parts
-end_passed {v} {at} p n l h e f =
-    let from = length v - n in
-    let k : from + n - from ≡ n = omega arith in
-    let whole : take n (drop from v) ≡ drop from v = take_all n (drop from v) (omega (arith, length-drop from v)) in
-    let none : has 10 (drop from v) ≡ false = rw (k, whole) at (sym e ∙ f) in
-    let j : from + (at - from) ≡ at = omega arith in
-    let rest : has 10 (drop at v) ≡ false = rw (drop-drop (at - from) from v, j) at (has_later (at - from) (drop from v) none) in
-    let left : first_long (drop at v) ≡ length v - at = no_newline (drop at v) rest ∙ length-drop at v in
-    let z : first_long (drop (length v) v) ≡ 0 = rw (drop_of_length-le v {i = length v} (omega arith)) in
-    record { inside = omega arith; further = omega (arith, p.further, p.inside, left, z) }
+  pub clear_passed : {from at to : ℕ} → Passed v at → Clear P v from to → from ≤ at → at ≤ to → to ≤ length v → Passed v to
+  clear_passed {from} {at} {to} p C f h l =
+      let e : at + (to - at) ≡ to = omega arith in
+      rw e at (passed_by (to - at) at p (omega arith) (record { each = λ k a b. C.each k (omega (arith, a)) (omega (arith, b)) }))
+
+  -- two runs of windows from the start on
+  pub windows_passed : {a b : ℕ} → Clear P v 0 a → a ≤ length v → Clear P v a b → a ≤ b → b ≤ length v → Passed v b
+  windows_passed C l D f m = clear_passed (clear_passed (none_passed v) C (omega arith) (omega arith) l) D (omega arith) f m
+
+  pub line_end : {from at : ℕ} → Passed v from → Clear P v from at → from ≤ at → at ≤ length v → (at < length v → get_or v at 0 ≡ 10) → at ≡ first_long v
+  line_end {from} {at} p C f l n = by_test (ltb at (length v)) refl
+    where
+      by_test : (t : Bool) → ltb at (length v) ≡ t → at ≡ first_long v
+      by_test true e = let h = ltb-true at (length v) e in found (clear_passed p C (omega arith) f l) h (n h)
+      by_test false e = none_found (clear_passed p C (omega arith) f l) (ltb-false at (length v) e)

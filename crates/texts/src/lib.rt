@@ -2,59 +2,20 @@
 
 #![tactic(auto)]
 
-ghost use Rattle.std.specs.Prelude.{◌≡◌};
-ghost use Rattle.rules.specs.Bytes.{has};
+ghost use Rattle.std.specs.Prelude.{◌≡◌, ◌==◌};
 ghost use Rattle.texts.specs.FirstLine.{first_long, Passed};
+
+use looks::{clear_windows, first_found, is_clear};
 
 // So many bytes are looked at together; and so many where fewer are left.
 const CHUNK: usize = 32;
 
 const WINDOW: usize = 8;
 
-// Whether a newline is among the bytes. All are looked at, so that the machine can do it at once where their number is known.
-fn has_newline(v: &[u8]) -> bool
-    ensures { result ≡ has 10 v.now }
+fn is_newline(b: u8) -> bool
+    ensures { result ≡ (b == 10) }
 {
-    let mut found = false;
-    let mut i = 0;
-    while i < v.len() {
-        if v[i] == b'\n' {
-            found = true;
-        }
-        i += 1;
-    }
-    found
-}
-
-// The start of the first chunk that has a newline or is not whole.
-fn skip(v: &[u8]) -> usize
-    ensures { Passed v.now result }
-{
-    let mut at = 0;
-    while CHUNK <= v.len() - at {
-        let to = at + CHUNK;
-        if has_newline(&v[at..to]) {
-            return at;
-        }
-        at = to;
-    }
-    at
-}
-
-// The start of the first window from `from` on that has a newline or is not whole.
-fn skip_windows(v: &[u8], from: usize) -> usize
-    requires { Passed v.now from }
-    ensures { Passed v.now result }
-{
-    let mut at = from;
-    while WINDOW <= v.len() - at {
-        let to = at + WINDOW;
-        if has_newline(&v[at..to]) {
-            return at;
-        }
-        at = to;
-    }
-    at
+    b == b'\n'
 }
 
 // A place that no newline stands before: mostly the end, for the bytes behind the last window are looked at with some before them.
@@ -64,12 +25,11 @@ fn skip_most(v: &[u8]) -> usize
     if v.len() < WINDOW {
         return 0;
     }
-    let at = skip_windows(v, skip(v));
+    let chunks = clear_windows::<CHUNK, _>(v, 0, is_newline);
+    let at = clear_windows::<WINDOW, _>(v, chunks, is_newline);
     let last = v.len() - WINDOW;
-    if last <= at {
-        if !has_newline(&v[last..last + WINDOW]) {
-            return v.len();
-        }
+    if last <= at && is_clear::<WINDOW, _>(v, last, is_newline) {
+        return v.len();
     }
     at
 }
@@ -78,12 +38,5 @@ fn skip_most(v: &[u8]) -> usize
 pub fn first_line_end(v: &[u8]) -> usize
     ensures { result ≡ first_long v.now }
 {
-    let mut at = skip_most(v);
-    while at < v.len() {
-        if v[at] == b'\n' {
-            return at;
-        }
-        at += 1;
-    }
-    at
+    first_found(v, skip_most(v), is_newline)
 }

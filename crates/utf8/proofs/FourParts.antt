@@ -1,5 +1,6 @@
 -- The bits of a list are those of its parts.
 use Rattle.rules.proofs.Basics.{◌≡◌, refl, sym, ◌∙◌, ap, List, [], ◌∷◌, ◌++◌, ℕ, zero, suc, ◌+◌, ◌-◌, ◌*◌, ◌/◌, ◌%◌, ◌≤◌, ◌<◌, max, arith, length, get_or, take, drop, take-append-drop, take_all, length-take, length-drop, drop-drop}
+use Rattle.std.specs.Prelude.{fold}
 use lib.Bits.{bit_or, or_step, or_zero_l, or_zero_r}
 use Rattle.utf8.specs.AllBits.{bits_with, all_bits, four_bits}
 use Rattle.utf8.proofs.Ascii.{one_or, all_or}
@@ -20,6 +21,17 @@ assoc_to (suc k) a b c h i j =
 
 or_assoc : (a b c : ℕ) → bit_or (bit_or a b) c ≡ bit_or a (bit_or b c)
 or_assoc a b c = assoc_to (a + b + c) a b c (omega arith) (omega arith) (omega arith)
+
+-- ---- the fold over one part
+
+folded : (n : ℕ) (s : List ℕ) → fold bit_or n s ≡ bits_with n s
+unfolding bits_with
+folded n [] = refl
+folded n (b ∷ s) = folded (bit_or n b) s
+
+pub all_folded : (s : List ℕ) → fold bit_or 0 s ≡ all_bits s
+unfolding all_bits
+all_folded s = folded 0 s
 
 -- ---- the loop over four parts
 

@@ -1,8 +1,9 @@
 -- What follows a first byte, for all bytes of a range at once, from one computed list.
 use Rattle.rules.proofs.Basics.{◌≡◌, sym, ◌∙◌, ap, List, [], ◌∷◌, map, Option, ℕ, zero, suc, ◌+◌, ◌-◌, ◌≤◌, ◌<◌, arith, replicate}
+use Rattle.std.specs.Prelude.{Option as RustOption}
 use Rattle.rules.specs.Utf8.{Range, following}
 use Rattle.utf8.specs.Owing.{wanted}
-use Rattle.utf8.specs.declared.Begun.{Begun}
+use Rattle.utf8.specs.declared.Owed.{Owed}
 
 -- n numbers from lo on
 abbrev pub numbers : (lo n : ℕ) → List ℕ
@@ -21,7 +22,7 @@ same f x lo (suc n) (suc k) e h =
     rw s (same f x (suc lo) n k (cc) (omega arith))
 
 -- what the code answers for a byte from lo to hi
-pub between : (lo hi : ℕ) {r begun : Begun} → r ≡ begun → Followed lo hi (wanted begun) → (b : ℕ) → lo ≤ b → b ≤ hi → wanted r ≡ following b
+pub between : (lo hi : ℕ) {r begun : RustOption Owed} → r ≡ begun → Followed lo hi (wanted begun) → (b : ℕ) → lo ≤ b → b ≤ hi → wanted r ≡ following b
 between lo hi {begun = begun} g e b l h =
     let s : lo + (b - lo) ≡ b = omega arith in
     ap wanted g ∙ sym (rw s at (same following (wanted begun) lo (suc hi - lo) (b - lo) e (omega arith)))

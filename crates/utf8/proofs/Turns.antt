@@ -1,13 +1,12 @@
 -- A turn of the loops: one byte taken from what is left of the slice.
-use Rattle.std.specs.Prelude.{if◌then◌else◌}
-use Rattle.rules.proofs.Basics.{◌≡◌, refl, sym, ap, List, [], ◌∷◌, none, some, Bool, true, false, ◌&&◌, ℕ, suc, ◌+◌, ◌≤◌, ◌<◌, add-one, length, drop, get_or, drop_of_length-le, drop-cons, eq-eqb, ne_eqb}
+use Rattle.std.specs.Prelude.{if◌then◌else◌, Option as RustOption, Some, None}
+use Rattle.rules.proofs.Basics.{◌≡◌, refl, sym, ◌∙◌, ap, List, [], ◌∷◌, none, some, Bool, true, false, ◌&&◌, ℕ, suc, ◌+◌, ◌≤◌, ◌<◌, add-one, length, drop, get_or, drop_of_length-le, drop-cons, eqb, eqb-true, eqb-false, eq-eqb, ne_eqb}
+use Rattle.std.specs.List.{list_any}
 use Rattle.rules.specs.Bytes.{has}
 use Rattle.rules.specs.Utf8.{Range, in_range, begun, utf8, utf8_after}
 use Rattle.utf8.specs.Answer.{utf8_answer, sound_if}
 use Rattle.utf8.specs.Owing.{ranges, wanted, wanted_by, after}
 use Rattle.utf8.specs.declared.Owed.{Owed}
-use Rattle.utf8.specs.declared.Begun.{Begun}
-use Rattle.utf8.specs.declared.Begun.TheVariants.{Wants, Never}
 use Rattle.utf8.specs.declared.Utf8.TheVariants.{Sound, Broken}
 use Rattle.utf8.proofs.Steps.{one_more}
 
@@ -23,15 +22,15 @@ one_byte (r ∷ rs) b s = by_test (in_range r b)
 
 -- the loop stands at i and wants what o says
 module _ (s : List ℕ) (i : ℕ) (o : Owed) (inv : utf8_after (wanted_by o) (drop i s) ≡ utf8 s) where
-  module _ (h : i < length s) (g : Begun) (stepped : wanted g ≡ after (wanted_by o) (get_or s i 0)) where
+  module _ (h : i < length s) (g : RustOption Owed) (stepped : wanted g ≡ after (wanted_by o) (get_or s i 0)) where
     turned : begun (wanted g) (λ rs. utf8_after rs (drop (i + 1) s)) ≡ utf8 s
     turned = rw (stepped, add-one, ← one_byte (wanted_by o) (get_or s i 0) (drop (suc i) s), ← drop-cons s i 0 h) inv
 
-    pub never : g ≡ Never → Broken ≡ utf8_answer s
+    pub never : g ≡ None → Broken ≡ utf8_answer s
     unfolding utf8_answer
     never e = ap sound_if (rw e at turned)
 
-    pub goes_on : {o' : Owed} → g ≡ Wants o' → utf8_after (wanted_by o') (drop (i + 1) s) ≡ utf8 s
+    pub goes_on : {o' : Owed} → g ≡ Some o' → utf8_after (wanted_by o') (drop (i + 1) s) ≡ utf8 s
     goes_on e = rw e at turned
 
   module _ (h : length s ≤ i) where
@@ -46,16 +45,15 @@ module _ (s : List ℕ) (i : ℕ) (o : Owed) (inv : utf8_after (wanted_by o) (dr
     unfolding utf8_answer utf8_after
     cut e = ap sound_if (rw (one_more o.more o.lo o.hi e) at at_end)
 
--- the bytes passed have no n, and the byte at i is next
-module _ (n : ℕ) (s : List ℕ) (i : ℕ) (inv : has n (drop i s) ≡ has n s) where
-  pub found : i < length s → get_or s i 0 ≡ n → true ≡ has n s
-  unfolding has
-  found h e = rw (drop-cons s i 0 h, eq-eqb n (get_or s i 0) (sym e)) at inv
+-- the library's `contains` says `has`
+swapped : (m n : ℕ) → eqb m n ≡ eqb n m
+swapped m n = by_test (eqb m n) refl
+  where
+    by_test : (t : Bool) → eqb m n ≡ t → eqb m n ≡ eqb n m
+    by_test true e = e ∙ sym (eq-eqb n m (sym (eqb-true m n e)))
+    by_test false e = e ∙ sym (ne_eqb n m (λ q. eqb-false m n e (sym q)))
 
-  pub passed : i < length s → (get_or s i 0 ≡ n → ⊥) → has n (drop (i + 1) s) ≡ has n s
-  unfolding has
-  passed h e = rw add-one (rw (drop-cons s i 0 h, ne_eqb n (get_or s i 0) (λ q. e (sym q))) at inv)
-
-  pub not_there : length s ≤ i → false ≡ has n s
-  unfolding has
-  not_there h = rw (drop_of_length-le s h) at inv
+pub contained : (b : ℕ) (s : List ℕ) → list_any (λ y. eqb y b) s ≡ has b s
+unfolding has
+contained b [] = refl
+contained b (y ∷ s) = rw (swapped y b, contained b s)

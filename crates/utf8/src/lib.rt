@@ -2,42 +2,35 @@
 
 #![tactic(auto)]
 
-ghost use Rattle.std.specs.Prelude.{◌≡◌, length};
+ghost use Rattle.std.specs.Prelude.{◌≡◌, length, Some};
 ghost use Rattle.rules.specs.Bytes.{has};
 ghost use Rattle.rules.specs.Utf8.{following};
 ghost use Rattle.utf8.specs.Owing.{wanted, wanted_by, after};
 ghost use Rattle.utf8.specs.Answer.{utf8_answer};
 ghost use Rattle.utf8.specs.AllBits.{all_bits, four_bits};
 
-#[derive(Drop)]
+#[derive(Debug, Clone, Copy, PartialEq, Eq)]
 pub enum Utf8 {
     Sound,
     Broken,
 }
 
 // What a character that has begun still wants: how many bytes more, and the range of the next of them, which says nothing where `more` is 0.
-#[derive(Drop)]
+#[derive(Clone, Copy)]
 struct Owed {
     more: usize,
     lo: u8,
     hi: u8,
 }
 
-#[derive(Drop)]
-enum Begun {
-    Wants(Owed),
-    // no character goes on so
-    Never,
-}
-
-fn wants(more: usize, lo: u8, hi: u8) -> Begun
-    ensures { result ≡ Begun.Wants (record { more = more; lo = lo; hi = hi }) }
+fn wants(more: usize, lo: u8, hi: u8) -> Option<Owed>
+    ensures { result ≡ Some (record { more = more; lo = lo; hi = hi }) }
 {
-    Begun::Wants(Owed { more, lo, hi })
+    Some(Owed { more, lo, hi })
 }
 
-// What a first byte wants after it: the table of RFC 3629.
-fn begin(b: u8) -> Begun
+// What a first byte wants after it, or nothing where no character begins so: the table of RFC 3629.
+fn begin(b: u8) -> Option<Owed>
     ensures { wanted result ≡ following b }
 {
     match b {
@@ -50,22 +43,19 @@ fn begin(b: u8) -> Begun
         0xf0 => wants(3, 0x90, 0xbf),
         0xf1..=0xf3 => wants(3, 0x80, 0xbf),
         0xf4 => wants(3, 0x80, 0x8f),
-        _ => Begun::Never,
+        _ => None,
     }
 }
 
-// What is wanted after one byte more.
-fn step(o: Owed, b: u8) -> Begun
+// What is wanted after one byte more, or nothing where no character goes on with it.
+fn step(o: Owed, b: u8) -> Option<Owed>
     ensures { wanted result ≡ after (wanted_by o) b }
 {
     if o.more == 0 {
         return begin(b);
     }
-    if b < o.lo {
-        return Begun::Never;
-    }
-    if o.hi < b {
-        return Begun::Never;
+    if b < o.lo || o.hi < b {
+        return None;
     }
     wants(o.more - 1, 0x80, 0xbf)
 }
@@ -74,13 +64,7 @@ fn step(o: Owed, b: u8) -> Begun
 fn each_bits(s: &[u8]) -> u8
     ensures { result ≡ all_bits s.now }
 {
-    let mut all = 0;
-    let mut i = 0;
-    while i < s.len() {
-        all = all | s[i];
-        i += 1;
-    }
-    all
+    s.iter().fold(0, |all, &b| all | b)
 }
 
 // The same of four parts as long as each other. Each has a number of its own, so that no step waits for the one before it.
@@ -92,13 +76,11 @@ fn four_bits(a: &[u8], b: &[u8], c: &[u8], d: &[u8]) -> u8
     let mut second = 0;
     let mut third = 0;
     let mut fourth = 0;
-    let mut i = 0;
-    while i < a.len() {
-        first = first | a[i];
-        second = second | b[i];
-        third = third | c[i];
-        fourth = fourth | d[i];
-        i += 1;
+    for i in 0..a.len() {
+        first |= a[i];
+        second |= b[i];
+        third |= c[i];
+        fourth |= d[i];
     }
     first | second | third | fourth
 }
@@ -130,14 +112,11 @@ fn check_each(s: &[u8]) -> Utf8
         lo: 0x80,
         hi: 0xbf,
     };
-    let mut i = 0;
-    while i < s.len() {
-        let begun = step(owed, s[i]);
-        let Begun::Wants(next) = begun else {
+    for &b in s {
+        let Some(next) = step(owed, b) else {
             return Utf8::Broken;
         };
         owed = next;
-        i += 1;
     }
     if owed.more == 0 {
         return Utf8::Sound;
@@ -159,12 +138,5 @@ pub fn check_utf8(s: &[u8]) -> Utf8
 pub fn has_byte(s: &[u8], b: u8) -> bool
     ensures { result ≡ has b s.now }
 {
-    let mut i = 0;
-    while i < s.len() {
-        if s[i] == b {
-            return true;
-        }
-        i += 1;
-    }
-    false
+    s.contains(&b)
 }

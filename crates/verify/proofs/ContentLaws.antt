@@ -1,7 +1,7 @@
 -- The content of a value of bytes, by its tag and by what the tests say.
-use Rattle.rules.proofs.Basics.{◌≡◌, refl, sym, ◌∙◌, ap₂, List, [], ◌∷◌, Bool, true, false, not, ℕ, ◌+◌, ◌-◌, ◌*◌, ◌≤◌, ◌<◌, arith, leb, eqb, length, get_or, take, drop, le-leb, lt-leb, ne_eqb, eq-eqb, eqb-true}
+use Rattle.rules.proofs.Basics.{◌≡◌, refl, sym, ◌∙◌, ap₂, List, [], ◌∷◌, Bool, true, false, not, ℕ, ◌-◌, ◌≤◌, arith, eqb, length, get_or, take, drop, ne_eqb, eqb-true}
 use lib.Seq.{slice}
-use Rattle.rules.proofs.Lengths.{number_one, number_four}
+use Rattle.rules.proofs.Lengths.{number_one}
 use Rattle.rules.specs.Limits.{first_style}
 use Rattle.rules.specs.Bytes.{has, number}
 use Rattle.rules.specs.Utf8.{utf8}
@@ -102,32 +102,6 @@ module _ {s : List ℕ} {place from to : ℕ} (P : Between s place from to) {odd
 pub calm_name : {s : List ℕ} {place from to : ℕ} → Between s place from to → Calm 34 s from to → {x : Result (Unit {0})} → x ≡ accepted tt → x ≡ sound (anchor_content (slice from to s)) place
 unfolding sound need ◌>>◌ anchor_content
 calm_name P C q = simp (calm_utf8 P.ends P.rising C, calm_lacks P.ends P.rising C) q
-
--- ---- numbers
-
-pub number_of_four : (v : List ℕ) → length v ≡ 4 → ((get_or v 0 0 * 256 + get_or v 1 0) * 256 + get_or v 2 0) * 256 + get_or v 3 0 ≡ number v
-number_of_four v e = omega (arith, number_four v e)
-
-module _ (b : ℕ) where
-  pub opacity_zero : b ≡ 0 → true ≡ right_opacity b
-  unfolding right_opacity
-  opacity_zero e = simp (eq-eqb b 0 e)
-
-  pub opacity_low : (b ≡ 0 → ⊥) → b < 0x3a80_0000 → false ≡ right_opacity b
-  unfolding right_opacity
-  opacity_low z h = simp (ne_eqb b 0 z, lt-leb 0x3a80_0000 b h)
-
-  pub opacity_high : (b ≡ 0 → ⊥) → 0x3a80_0000 ≤ b → leb b 0x3f80_0000 ≡ right_opacity b
-  unfolding right_opacity
-  opacity_high z h = simp (ne_eqb b 0 z, le-leb 0x3a80_0000 b h)
-
-  pub size_low : b ≤ 117 → true ≡ right_size b
-  unfolding right_size
-  size_low h = simp (le-leb b 117 h)
-
-  pub size_high : 117 < b → leb 128 b ≡ right_size b
-  unfolding right_size
-  size_high h = simp (lt-leb b 117 h)
 
 -- ---- a style's field, by its tag
 

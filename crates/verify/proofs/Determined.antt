@@ -2,9 +2,9 @@
 use Rattle.rules.proofs.Basics.{◌≡◌, refl, sym, ◌∙◌, List, Bool, ℕ, zero, suc, ◌/◌, ◌%◌, arith}
 use Rattle.rules.specs.Walk.{Holder}
 use Rattle.rules.proofs.Chains.{no_path}
-use Rattle.verify.specs.declared.style.Styled.{Styled}
-use Rattle.verify.specs.declared.style.Styled.TheVariants.{Right, WrongLength, BadStyle}
-use Rattle.verify.specs.Said.{verdict, styled}
+use Rattle.std.specs.Prelude.{Ok, Err}
+use Rattle.verify.specs.declared.style.StyleFault.TheVariants.{WrongLength, BadStyle}
+use Rattle.verify.specs.Said.{verdict, Styled, styled}
 use Rattle.verify.specs.Walked.{RestSaid}
 
 -- two verdicts that say the same are the same
@@ -24,12 +24,12 @@ rest_unique a b x y = verdict_unique a b (x.is ∙ sym y.is)
 -- and so with what is said of a style's field
 pub styled_unique : (a b : Styled) (p : ℕ) → styled a p ≡ styled b p → a ≡ b
 unfolding styled
-styled_unique Right Right p e = refl
-styled_unique Right WrongLength p e = no_path (cc)
-styled_unique Right BadStyle p e = no_path (cc)
-styled_unique WrongLength Right p e = no_path (cc)
-styled_unique WrongLength WrongLength p e = refl
-styled_unique WrongLength BadStyle p e = no_path (cc)
-styled_unique BadStyle Right p e = no_path (cc)
-styled_unique BadStyle WrongLength p e = no_path (cc)
-styled_unique BadStyle BadStyle p e = refl
+styled_unique (Ok a) (Ok b) p e = refl
+styled_unique (Ok a) (Err WrongLength) p e = no_path (cc)
+styled_unique (Ok a) (Err BadStyle) p e = no_path (cc)
+styled_unique (Err WrongLength) (Ok b) p e = no_path (cc)
+styled_unique (Err WrongLength) (Err WrongLength) p e = refl
+styled_unique (Err WrongLength) (Err BadStyle) p e = no_path (cc)
+styled_unique (Err BadStyle) (Ok b) p e = no_path (cc)
+styled_unique (Err BadStyle) (Err WrongLength) p e = no_path (cc)
+styled_unique (Err BadStyle) (Err BadStyle) p e = refl

@@ -1,5 +1,8 @@
 -- What a quick look finds is sound: style's fields in order, and a 17 that fills a text.
-use Rattle.rules.proofs.Basics.{◌≡◌, refl, sym, ◌∙◌, ap, List, [], ◌∷◌, ◌++◌, Bool, true, false, ◌&&◌, ◌||◌, not, or-false, ℕ, ◌+◌, ◌-◌, ◌*◌, ◌≤◌, ◌<◌, arith, eqb, length, get_or, take, drop, lt-ltb, eq-eqb, ne_eqb, eqb-true, eqb-false}
+use Rattle.rules.proofs.Basics.{◌≡◌, refl, sym, ◌∙◌, ap, List, [], ◌∷◌, ◌++◌, Bool, true, false, ◌&&◌, ◌||◌, not, or-false, ℕ, ◌+◌, ◌-◌, ◌≤◌, ◌<◌, arith, eqb, length, get_or, take, drop, lt-ltb, eq-eqb, ne_eqb, eqb-true}
+use Rattle.std.specs.Prelude.{Option, None, Some, IfSome}
+use Rattle.std.specs.Option.{unwrap_or}
+use Rattle.std.proofs.lemmas.Option.{IfSome_then}
 use lib.Seq.{slice, length-slice, slice-cons}
 use Rattle.rules.specs.Limits.{first_style, last_style}
 use Rattle.rules.specs.Bytes.{has, number}
@@ -8,7 +11,6 @@ use Rattle.rules.specs.Result.{accepted, ◌>>◌, need, sound}
 use Rattle.rules.specs.Walk.{in_text, in_styles, allowed, complete, right_length, right_opacity, right_size}
 use Rattle.fields.specs.FieldAt.{length_at}
 use Rattle.fields.proofs.Laws.{whole_in}
-use Rattle.looks.specs.Calm.{Says}
 use Rattle.utf8.specs.Answer.{utf8_answer}
 use Rattle.utf8.specs.AllBits.{all_bits}
 use Rattle.utf8.proofs.Ascii.{ascii}
@@ -16,7 +18,7 @@ use Rattle.verify.specs.Contents.{style_verdict}
 use Rattle.verify.specs.Walked.{RestSaid, Between, TextLeft}
 use Rattle.verify.specs.Glanced.{Stands, Passed, PassedRight, Upto, RightFrom}
 use Rattle.verify.proofs.Parts.{sliced}
-use Rattle.verify.proofs.TagLaws.{by_test, never, styles_rise, length_flag}
+use Rattle.verify.proofs.TagLaws.{never, styles_rise, length_flag}
 use Rattle.verify.proofs.SeenLaws.{has_last, no_style}
 use Rattle.verify.proofs.ContentLaws.{by_content, no_content, opacity_sound, size_sound, loose_text, utf8_text, if_sound}
 use Rattle.verify.proofs.ValueLaws.{style_value}
@@ -85,12 +87,6 @@ module _ {s : List ℕ} {place at end t to : ℕ} (P : Between s place at end) (
   standing : At s end at t (at + 3) to
   standing = field_there P (whole_in s at end P.ends (length_at s at) refl (omega (arith, S.ends))) (rw (S.tag, S.ends))
 
-pub none_passed : {s : List ℕ} {stop t n at : ℕ} → at ≤ stop → Passed s stop t n at at
-none_passed h = record { rising = omega arith; inside = h; there = λ n. absurd (n refl); long = λ n. absurd (n refl) }
-
-pub none_right : {s : List ℕ} {stop t at : ℕ} → at ≤ stop → PassedRight s stop t at at
-none_right h = record { rising = omega arith; inside = h; there = λ n. absurd (n refl); right = λ n. absurd (n refl) }
-
 -- nothing is left
 pub right_there : {m : ℕ} {s : List ℕ} {stop at : ℕ} → at ≡ stop → RightFrom m s stop at
 right_there e =
@@ -98,23 +94,23 @@ right_there e =
 
 -- a right field, then what is left behind it
 module _ {s : List ℕ} {place at stop t to m before : ℕ} {ts : List ℕ} (P : Between s place at stop) (U : Upto m before ts) (l : m < t) (F : Fits t ts) (f : first_style ≤ t) (g : t ≤ last_style)
-    (R : PassedRight s stop t at to) (n : to ≡ at → ⊥) (d : ℕ) where
+    (R : PassedRight s stop t at to) (d : ℕ) where
   one_right : (Upto t t (ts ++ (t ∷ [])) → Between s place to stop → RestSaid false in_styles (ts ++ (t ∷ [])) d t place to (slice to stop s) (accepted tt)) → RestSaid false in_styles ts d before place at (slice at stop s) (accepted tt)
   one_right k =
-      let A = standing P (R.there n) R.inside in
-      whole_on P in_styles ts d before A (rises U l f g) (style_value d at _ before (rises U l f g) (R.right n at)) (k (upto_more U l F) (rest_part P A))
-
-module _ {s : List ℕ} {at stop t to : ℕ} (m : ℕ) (l : m < t) (F : (before : ℕ) (ts : List ℕ) → Upto m before ts → Fits t ts) (f : first_style ≤ t) (g : t ≤ last_style) (R : PassedRight s stop t at to) where
-  pub right_on : RightFrom t s stop to → RightFrom m s stop at
-  right_on W =
-      record {
-        said = λ d before place ts P U. by_test (eqb to at)
-            (λ e. let q = eqb-true to at e in (rw q at W).said d before place ts P (upto_later (omega (arith, l)) U))
-            (λ e. one_right P U l (F before ts U) f g R (eqb-false to at e) d (λ N Q. W.said d t place _ Q N));
-      }
+      let A = standing P R.there R.inside in
+      whole_on P in_styles ts d before A (rises U l f g) (style_value d at _ before (rises U l f g) (R.right at)) (k (upto_more U l F) (rest_part P A))
 
 pub right_later : {m n : ℕ} {s : List ℕ} {stop at : ℕ} → m ≤ n → RightFrom n s stop at → RightFrom m s stop at
 right_later h W = record { said = λ d before place ts P U. W.said d before place ts P (upto_later h U) }
+
+-- one may stand there: what is left begins behind it, or else at the same place
+module _ {s : List ℕ} {at stop t : ℕ} (m : ℕ) (l : m < t) (F : (before : ℕ) (ts : List ℕ) → Upto m before ts → Fits t ts) (f : first_style ≤ t) (g : t ≤ last_style) where
+  pub right_behind : {to : ℕ} → PassedRight s stop t at to → RightFrom t s stop to → RightFrom m s stop at
+  right_behind R W = record { said = λ d before place ts P U. one_right P U l (F before ts U) f g R d (λ N Q. W.said d t place _ Q N) }
+
+  pub right_on : (o : Option ℕ) → IfSome o (PassedRight s stop t at) → {to : ℕ} → to ≡ unwrap_or o at → RightFrom t s stop to → RightFrom m s stop at
+  right_on None R e W = right_later (omega (arith, l)) (rw e at W)
+  right_on (Some to) R e W = right_behind R (rw e at W)
 
 -- ---- a style's field, by its tag
 
@@ -139,56 +135,62 @@ plain_flag t h g =
     record { low = omega arith; high = g; no_opacity = λ e. omega (arith, e); no_size = λ e. omega (arith, e); length_right = sym (length_flag t 0 h g) }
 
 module _ {s : List ℕ} {at stop t n to : ℕ} (h : stop < length s) (Q : Passed s stop t n at to) where
-  long_value : (to ≡ at → ⊥) → length (slice (at + 3) to s) ≡ n
-  long_value i = length-slice (at + 3) to s (omega (arith, Q.inside)) ∙ omega (arith, Q.long i)
+  long_value : length (slice (at + 3) to s) ≡ n
+  long_value = length-slice (at + 3) to s (omega (arith, Q.inside)) ∙ omega (arith, Q.long)
 
-  -- the value, as it is lent
-  pub lent_long : (to ≡ at → ⊥) → length (take (to - (at + 3)) (drop (at + 3) s)) ≡ n
-  lent_long i = rw (sliced s (at + 3) to (omega (arith, Q.long i))) (long_value i)
-
-  passed_right : ((to ≡ at → ⊥) → (p : ℕ) → accepted tt ≡ style_verdict t (slice (at + 3) to s) p) → PassedRight s stop t at to
-  passed_right r = record { rising = Q.rising; inside = Q.inside; there = Q.there; right = r }
+  passed_right : ((p : ℕ) → accepted tt ≡ style_verdict t (slice (at + 3) to s) p) → PassedRight s stop t at to
+  passed_right r = record { inside = Q.inside; there = Q.there; right = r }
 
   pub plain_right : Plain t n → PassedRight s stop t at to
-  plain_right T = passed_right (λ i p. by_content t _ p (rw (long_value i) T.length_right) (no_content t _ p T.low T.no_opacity T.no_size))
+  plain_right T = passed_right (λ p. by_content t _ p (rw long_value T.length_right) (no_content t _ p T.low T.no_opacity T.no_size))
 
   pub opacity_right : t ≡ 33 → n ≡ 4 → {w : ℕ} {b : Bool} → w ≡ number (take (to - (at + 3)) (drop (at + 3) s)) → b ≡ right_opacity w → b ≡ true → PassedRight s stop t at to
   unfolding right_length
   opacity_right e f w q z =
-      passed_right (λ i p.
-      let l = long_value i in
-      let u = rw (sliced s (at + 3) to (omega (arith, Q.long i))) at w in
+      passed_right (λ p.
+      let l = long_value in
+      let u = rw (sliced s (at + 3) to (omega (arith, Q.long))) at w in
       by_content t _ p (rw (e, l) (eq-eqb n 4 f)) (opacity_sound t _ p e (sym (q ∙ ap right_opacity u) ∙ z)))
 
   pub size_right : t ≡ 35 → n ≡ 1 → {w : ℕ} {b : Bool} → w ≡ get_or s (at + 3) 0 → b ≡ right_size w → b ≡ true → PassedRight s stop t at to
   unfolding right_length
   size_right e f w q z =
-      passed_right (λ i p.
-      let l = long_value i in
-      let u : get_or (slice (at + 3) to s) 0 0 ≡ get_or s (at + 3) 0 = rw (slice-cons (at + 3) to s 0 (omega (arith, Q.long i)) (omega (arith, Q.inside))) in
+      passed_right (λ p.
+      let l = long_value in
+      let u : get_or (slice (at + 3) to s) 0 0 ≡ get_or s (at + 3) 0 = rw (slice-cons (at + 3) to s 0 (omega (arith, Q.long)) (omega (arith, Q.inside))) in
       by_content t _ p (rw (e, l) (eq-eqb n 1 f)) (size_sound t _ p e (l ∙ f) (ap right_size (u ∙ sym w) ∙ sym q ∙ z)))
 
 -- a tag that asks nothing of those before it
 pub free : (t : ℕ) → (t ≡ 33 → ⊥) → (t ≡ 37 → ⊥) → (ts : List ℕ) → Fits t ts
 free t a b ts = record { hued = λ e. absurd (a e); alone = λ e. absurd (b e) }
 
-pub plain_on : {s : List ℕ} {at stop t n to : ℕ} (m : ℕ) → stop < length s → Passed s stop t n at to → Plain t n → m < t → (t ≡ 37 → ⊥) → RightFrom t s stop to → RightFrom m s stop at
-plain_on {t = t} m h Q T l n W = right_on m l (λ before ts U. free t T.no_opacity n ts) T.low T.high (plain_right h Q T) W
+module _ {s : List ℕ} {at stop t n : ℕ} (m : ℕ) (h : stop < length s) (T : Plain t n) (l : m < t) (i : t ≡ 37 → ⊥) where
+  pub plain_behind : {to : ℕ} → Passed s stop t n at to → RightFrom t s stop to → RightFrom m s stop at
+  plain_behind Q W = right_behind m l (λ before ts U. free t T.no_opacity i ts) T.low T.high (plain_right h Q T) W
+
+  pub plain_on : (o : Option ℕ) → IfSome o (Passed s stop t n at) → {to : ℕ} → to ≡ unwrap_or o at → RightFrom t s stop to → RightFrom m s stop at
+  plain_on o Q e W = right_on m l (λ before ts U. free t T.no_opacity i ts) T.low T.high o (IfSome_then o Q (λ to q. plain_right h q T)) e W
 
 -- ---- the fields of a 16
 
 module _ {s : List ℕ} {stop from coloured : ℕ} (h : stop < length s) (Q : Passed s stop 32 3 from coloured) where
   pub right_from_colour : RightFrom 32 s stop coloured → RightFrom 0 s stop from
-  right_from_colour W = plain_on 0 h Q plain_colour (omega arith) (λ e. omega (arith, e)) W
+  right_from_colour W = plain_behind 0 h plain_colour (omega arith) (λ e. omega (arith, e)) Q W
+
+  behind_colour : (d place : ℕ) → Between s place from stop
+      → (Upto 32 32 ([] ++ (32 ∷ [])) → Between s place coloured stop → RestSaid false in_styles ([] ++ (32 ∷ [])) d 32 place coloured (slice coloured stop s) (accepted tt))
+      → RestSaid false in_styles [] d 0 place from (slice from stop s) (accepted tt)
+  behind_colour d place P k =
+      one_right P upto_none (omega arith) (free 32 (λ e. omega (arith, e)) (λ e. omega (arith, e)) []) (omega arith) (omega arith) (plain_right h Q plain_colour) d k
 
   -- an opacity may stand behind a colour alone
-  pub right_from_opacity : (coloured ≡ from → ⊥) → {at : ℕ} → PassedRight s stop 33 coloured at → RightFrom 33 s stop at → (d place : ℕ) → Between s place from stop
+  pub right_from_opacity : (o : Option ℕ) → IfSome o (PassedRight s stop 33 coloured) → {at : ℕ} → at ≡ unwrap_or o coloured → RightFrom 33 s stop at → (d place : ℕ) → Between s place from stop
       → RestSaid false in_styles [] d 0 place from (slice from stop s) (accepted tt)
   unfolding has
-  right_from_opacity n {at} O W d place P =
-      one_right P upto_none (omega arith) (free 32 (λ e. omega (arith, e)) (λ e. omega (arith, e)) []) (omega arith) (omega arith) (plain_right h Q plain_colour) n d
-      (λ U R. by_test (eqb at coloured) (λ e. let q = eqb-true at coloured e in (rw q at W).said d 32 place _ R (upto_later (omega arith) U))
-      (λ e. one_right R U (omega arith) (record { hued = λ q. refl; alone = λ q. refl }) (omega arith) (omega arith) O (eqb-false at coloured e) d (λ N' R'. W.said d 33 place _ R' N')))
+  right_from_opacity None O e W d place P = behind_colour d place P (λ U R. (rw e at W).said d 32 place _ R (upto_later (omega arith) U))
+  right_from_opacity (Some to) O e W d place P =
+      behind_colour d place P (λ U R.
+      one_right R U (omega arith) (record { hued = λ q. refl; alone = λ q. refl }) (omega arith) (omega arith) O d (λ N' R'. (rw e at W).said d 33 place _ R' N'))
 
 -- ---- bytes
 
@@ -197,9 +199,6 @@ unfolding utf8_answer
 ascii_slice s from to l e h = if_sound (utf8 (slice from to s)) (sym (rw (sliced s from to l) at (ascii _ e h)))
 
 -- ---- a 17 that fills a text
-
-pub fill_said : (s : List ℕ) (at end : ℕ) {a b : ℕ} → get_or s at 0 ≡ 17 → a ≡ get_or s (at + 1) 0 → b ≡ get_or s (at + 2) 0 → at + 3 ≤ end → Says (eqb (a * 256 + b) (end - at - 3)) (Stands s 17 at end)
-fill_said s at end {a} {b} t p q h = record { says = λ e. record { tag = t; ends = omega (arith, eqb-true (a * 256 + b) (end - at - 3) e, p, q) } }
 
 module _ {s : List ℕ} {place at end : ℕ} (P : Between s place at end) (S : Stands s 17 at end) (u : utf8 (slice (at + 3) end s) ≡ true) (d : ℕ) where
   filled : (before : ℕ) (ts : List ℕ) → TextLeft before ts s at end → RestSaid false in_text ts d before place at (slice at end s) (accepted tt)

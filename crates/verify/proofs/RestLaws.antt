@@ -1,5 +1,5 @@
 -- What is left of a value's fields, as the code goes over them: by the header at a place, by the value behind it, and by what is left behind that.
-use Rattle.rules.proofs.Basics.{◌≡◌, refl, sym, ◌∙◌, ap, List, [], ◌∷◌, ◌++◌, Bool, true, false, ◌&&◌, ℕ, ◌+◌, ◌≤◌, ◌<◌, ◌^◌, arith, leb, get_or, take, leb-true, le-leb}
+use Rattle.rules.proofs.Basics.{◌≡◌, refl, sym, ◌∙◌, ap, List, [], ◌∷◌, ◌++◌, Bool, true, false, ◌&&◌, ℕ, ◌+◌, ◌-◌, ◌≤◌, ◌<◌, ◌^◌, arith, leb, get_or, take, leb-true, le-leb}
 use lib.Seq.{slice, get_or-take}
 use Rattle.rules.specs.Result.{Result, refused, accepted, ◌>>=◌, ◌>>◌, need, sound}
 use Rattle.rules.specs.Walk.{Holder, complete, allowed}
@@ -59,6 +59,19 @@ module _ {s : List ℕ} {place at end t from to : ℕ} (P : Between s place at e
 
   value_there : value_at (take end s) at ≡ slice from to s
   value_there = rw A.whole.from_is (part_of_part s from to end _ (ap (λ (n : ℕ). n + length_at (take end s) at) (sym A.whole.from_is) ∙ A.whole.to_is) in_the_part)
+
+-- the same of a field as the code finds it: its value, what is left behind it, which is shorter
+module _ {s : List ℕ} {place at end : ℕ} (P : Between s place at end) {f : Field} {t from to : ℕ} (e : f ≡ field_at (take end s) at) (w : f ≡ Whole t from to) where
+  pub value_of : Between s at from to
+  value_of = value_part P (field_there P e w)
+
+  pub rest_of : Between s place to end
+  rest_of = rest_part P (field_there P e w)
+
+  pub shorter : end - to < end - at
+  shorter =
+      let A = field_there P e w in
+      let h = A.inside in let r = rising A in let b = begins A in omega (arith, h, r, b)
 
 -- ---- what is left
 

@@ -2,9 +2,9 @@
 use Rattle.rules.proofs.Basics.{◌≡◌, refl, sym, ◌∙◌, ap, ap₂, ℕ, zero, suc, ◌+◌, ◌*◌, ◌/◌, ◌%◌, ◌<◌, arith}
 use Rattle.rules.specs.Result.{Result, refused, accepted, ◌>>=◌, ◌>>◌}
 use Rattle.rules.proofs.Chains.{no_path}
-use Rattle.verify.specs.declared.style.Styled.{Styled}
-use Rattle.verify.specs.declared.style.Styled.TheVariants.{Right, WrongLength, BadStyle}
-use Rattle.verify.specs.Said.{verdict, styled, done}
+use Rattle.std.specs.Prelude.{Ok, Err}
+use Rattle.verify.specs.declared.style.StyleFault.TheVariants.{WrongLength, BadStyle}
+use Rattle.verify.specs.Said.{verdict, Styled, styled, done}
 
 -- ---- verdicts
 
@@ -37,13 +37,13 @@ as_refused (suc r) n = refl
 pub faulty_said : {r : ℕ} → (r ≡ 0 → ⊥) → Faulty (verdict r)
 faulty_said {r} n = record { number = r % 256; place = r / 256; is = as_refused r n }
 
-pub not_right : (c : Styled) → (c ≡ Right → ⊥) → (p : ℕ) → Faulty (styled c p)
+pub not_right : (c : Styled) → ((x : Unit {0}) → c ≡ Ok x → ⊥) → (p : ℕ) → Faulty (styled c p)
 unfolding styled
-not_right Right n p = absurd (n refl)
-not_right WrongLength n p = record { number = 5; place = p; is = refl }
-not_right BadStyle n p = record { number = 8; place = p; is = refl }
+not_right (Ok x) n p = absurd (n x refl)
+not_right (Err WrongLength) n p = record { number = 5; place = p; is = refl }
+not_right (Err BadStyle) n p = record { number = 8; place = p; is = refl }
 
-pub right_said : {c : Styled} → c ≡ Right → (p : ℕ) → accepted tt ≡ styled c p
+pub right_said : {c : Styled} → c ≡ Ok tt → (p : ℕ) → accepted tt ≡ styled c p
 unfolding styled
 right_said e p = rw e
 

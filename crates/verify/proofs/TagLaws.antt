@@ -1,45 +1,20 @@
 -- The table of fields, where a tag is none of those that a branch has tested.
-use Rattle.std.specs.Prelude.{if◌then◌else◌}
-use Rattle.rules.proofs.Basics.{◌≡◌, refl, sym, ◌∙◌, Bool, true, false, ◌&&◌, ◌||◌, ℕ, ◌≤◌, ◌<◌, arith, leb, ltb, eqb, le-leb, lt-leb, ne_eqb, eq-eqb, leb-true, eqb-true, eqb-false}
+use Rattle.rules.proofs.Basics.{◌≡◌, refl, sym, ◌∙◌, Bool, true, false, ◌&&◌, ℕ, ◌≤◌, ◌<◌, arith, leb, ltb, eqb, le-leb, ne_eqb, eq-eqb, leb-true, eqb-true}
 use Rattle.rules.specs.Limits.{first_style, last_style}
 use Rattle.rules.specs.Bytes.{within}
-use Rattle.rules.specs.Walk.{Holder, allowed, allowed_to, right_length, is_block, in_fragment, in_anchor, in_styles}
+use Rattle.rules.specs.Walk.{Holder, allowed, allowed_to, right_length, in_fragment, in_anchor, in_styles}
 use Rattle.rules.proofs.Chains.{no_path}
 
 module _ (t : ℕ) where
-  pub other_block : (t ≡ 3 → ⊥) → eqb t 4 ≡ is_block t
-  unfolding is_block
-  other_block a = simp (ne_eqb t 3 a)
-
-  pub fragment_low : t < 1 → false ≡ allowed in_fragment 0 t
-  unfolding allowed_to
-  fragment_low h = simp (lt-leb 1 t h)
-
-  pub fragment_high : 1 ≤ t → leb t 7 ≡ allowed in_fragment 0 t
-  unfolding allowed_to
-  fragment_high h = simp (le-leb 1 t h)
-
   -- an anchor and a 16, after the tag before
   module _ (before : ℕ) where
     pub anchor_later : (before ≡ 0 → ⊥) → eqb t 1 ≡ allowed in_anchor before t
     unfolding allowed_to
     anchor_later a = simp (ne_eqb before 0 a)
 
-    pub anchor_18 : before ≡ 0 → t ≡ 18 → true ≡ allowed in_anchor before t
-    unfolding allowed_to
-    anchor_18 a e = simp (eq-eqb before 0 a, eq-eqb t 18 e)
-
     pub anchor_19 : before ≡ 0 → (t ≡ 18 → ⊥) → eqb t 19 ≡ allowed in_anchor before t
     unfolding allowed_to
     anchor_19 a e = simp (eq-eqb before 0 a, ne_eqb t 18 e)
-
-    pub styles_low : t < first_style → false ≡ allowed in_styles before t
-    unfolding allowed_to
-    styles_low h = simp (lt-leb first_style t h)
-
-    pub styles_high : last_style < t → false ≡ allowed in_styles before t
-    unfolding allowed_to
-    styles_high h = simp (le-leb first_style t (omega arith), lt-leb t last_style h)
 
     pub styles_rise : first_style ≤ t → t ≤ last_style → ltb before t ≡ allowed in_styles before t
     unfolding allowed_to
@@ -50,17 +25,6 @@ module _ (t : ℕ) where
     pub length_flag : 35 < t → t ≤ last_style → eqb n 0 ≡ right_length t n
     unfolding right_length
     length_flag h g = simp (ne_eqb t 5 (λ (z : t ≡ 5). omega arith), ne_eqb t 6 (λ (z : t ≡ 6). omega arith), le-leb 36 t h, le-leb t last_style g)
-
-    pub length_one : (t ≡ 32 → ⊥) → (t ≡ 33 → ⊥) → first_style ≤ t → t ≤ 35 → eqb n 1 ≡ right_length t n
-    unfolding right_length
-    length_one a b h g =
-        simp (ne_eqb t 5 (λ (z : t ≡ 5). omega arith), ne_eqb t 6 (λ (z : t ≡ 6). omega arith), lt-leb 36 t (omega arith), ne_eqb t 32 a, ne_eqb t 33 b)
-        (last (eqb t 34) (eqb t 35) refl refl)
-      where
-        last : (x y : Bool) → x ≡ eqb t 34 → y ≡ eqb t 35 → eqb n 1 ≡ (if x || y then eqb n 1 else true)
-        last true y p q = refl
-        last false true p q = refl
-        last false false p q = absurd (omega (arith, eqb-false t 34 (sym p), eqb-false t 35 (sym q)))
 
 -- ---- the tags that are allowed
 

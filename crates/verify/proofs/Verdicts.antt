@@ -2,9 +2,8 @@
 use Rattle.rules.proofs.Basics.{◌≡◌, refl, sym, ap, ◌∙◌, List, [], ◌∷◌, ℕ, suc, ◌<◌, get_or}
 use Rattle.rules.specs.declared.Refusal.{Refusal}
 use Rattle.rules.specs.declared.Refusal.TheVariants.{TooLong, TooWide, Cut, WrongTag, WrongLength, TooDeep, NotUtf8, BadStyle, QuoteInAnchor, PageTooShort, NulInText}
-use Rattle.rules.specs.declared.Answer.{Answer}
-use Rattle.rules.specs.declared.Answer.TheVariants.{Done, Refused}
-use Rattle.rules.specs.Result.{Result, refused, accepted, ◌>>=◌, refusal, said}
+use Rattle.std.specs.Prelude.{Ok, Err}
+use Rattle.rules.specs.Result.{Result, Answer, refused, accepted, ◌>>=◌, refusal, said}
 use Rattle.rules.specs.Tree.{Frag}
 use Rattle.rules.specs.Good.{Bytes}
 use Rattle.rules.specs.Answers.{tree, check_answer, check_answer_by}
@@ -36,7 +35,7 @@ not_accepted (NulInText p) n e = differ (sym e)
 
 -- by how the file is read: it was refused, with the answer's number and place, or accepted
 module _ (reading : List ℕ → Result (Frag ℕ)) (s : List ℕ) (a : Answer) (e : said a ≡ check_answer_by reading s) where
-  pub refused_by : {r : Refusal} → a ≡ Refused r → (n : ℕ) × (p : ℕ) × (reading s ≡ refused n p) × (said a ≡ refused n p)
+  pub refused_by : {r : Refusal} → a ≡ Err r → (n : ℕ) × (p : ℕ) × (reading s ≡ refused n p) × (said a ≡ refused n p)
   unfolding check_answer_by said ◌>>=◌
   refused_by {r} q = go (reading s) refl
     where
@@ -44,7 +43,7 @@ module _ (reading : List ℕ → Result (Frag ℕ)) (s : List ℕ) (a : Answer) 
       go (accepted t) f = absurd (not_accepted r 0 (sym (ap said q) ∙ e ∙ ap (λ x. x >>= (λ t. accepted 0)) f))
       go (refused n p) f = (n, p, f, e ∙ ap (λ x. x >>= (λ t. accepted 0)) f)
 
-  pub accepted_by : {n : ℕ} → a ≡ Done n → (t : Frag ℕ) × (reading s ≡ accepted t)
+  pub accepted_by : {n : ℕ} → a ≡ Ok n → (t : Frag ℕ) × (reading s ≡ accepted t)
   unfolding check_answer_by said ◌>>=◌
   accepted_by {n} q = go (reading s) refl
     where
@@ -62,7 +61,7 @@ pub record RefusedSo (s : List ℕ) (x : Result ℕ) : Type 0 where
   pub no_tree : tree s ≡ refused number place
   pub says : x ≡ refused number place
 
-pub refused_so : (s : List ℕ) (a : Answer) {r : Refusal} → a ≡ Refused r → said a ≡ check_answer s → RefusedSo s (said a)
+pub refused_so : (s : List ℕ) (a : Answer) {r : Refusal} → a ≡ Err r → said a ≡ check_answer s → RefusedSo s (said a)
 refused_so s a q e = let (n, p, f, g) = refused_by tree s a e q in record { number = n; place = p; no_tree = f; says = g }
 
 -- it is the bytes of a good tree
@@ -71,5 +70,5 @@ pub record AcceptedAs (s : List ℕ) : Type 0 where
   pub its_tree : tree s ≡ accepted root
   pub read : Read s root
 
-pub accepted_as : (s : List ℕ) (a : Answer) {n : ℕ} → Bytes s → a ≡ Done n → said a ≡ check_answer s → AcceptedAs s
+pub accepted_as : (s : List ℕ) (a : Answer) {n : ℕ} → Bytes s → a ≡ Ok n → said a ≡ check_answer s → AcceptedAs s
 accepted_as s a b q e = let (t, f) = accepted_by tree s a e q in record { root = t; its_tree = f; read = tree_read s t b f }

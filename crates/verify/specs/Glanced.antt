@@ -13,19 +13,17 @@ pub record Stands (s : List ℕ) (t at to : ℕ) : Type 0 where
   pub tag : get_or s at 0 ≡ t
   pub ends : at + 3 + length_at s at ≡ to
 
--- a field of the tag t and of n bytes was passed, or none
+-- a field of the tag t and of n bytes was passed
 pub record Passed (s : List ℕ) (stop t n at to : ℕ) : Type 0 where
-  pub rising : at ≤ to
   pub inside : to ≤ stop
-  pub there : (to ≡ at → ⊥) → Stands s t at to
-  pub long : (to ≡ at → ⊥) → at + 3 + n ≡ to
+  pub there : Stands s t at to
+  pub long : at + 3 + n ≡ to
 
--- a style's field of the tag t was passed that is right, or none
+-- a style's field of the tag t was passed that is right
 pub record PassedRight (s : List ℕ) (stop t at to : ℕ) : Type 0 where
-  pub rising : at ≤ to
   pub inside : to ≤ stop
-  pub there : (to ≡ at → ⊥) → Stands s t at to
-  pub right : (to ≡ at → ⊥) → (p : ℕ) → accepted tt ≡ style_verdict t (slice (at + 3) to s) p
+  pub there : Stands s t at to
+  pub right : (p : ℕ) → accepted tt ≡ style_verdict t (slice (at + 3) to s) p
 
 -- the tags ts of a 16, the last of which is before: none is over m, and nothing is missing or too much
 pub record Upto (m before : ℕ) (ts : List ℕ) : Type 0 where

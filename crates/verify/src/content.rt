@@ -62,10 +62,7 @@ fn is_calm_name(s: &[u8], from: usize, to: usize) -> bool
         return calm(s, from, to, b'"');
     }
     let mid = to - 8;
-    if calm(s, from, mid, b'"') {
-        return calm(s, mid, to, b'"');
-    }
-    false
+    calm(s, from, mid, b'"') && calm(s, mid, to, b'"')
 }
 
 // An anchor's name. UTF-8 comes before the quote.

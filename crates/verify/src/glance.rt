@@ -1,5 +1,5 @@
 // Quick looks at a text that is as most are: ASCII, with its styles in order. `true` says that it is sound, and `false` nothing: the exact check follows.
-ghost use Rattle.std.specs.Prelude.{◌≡◌, true, false, [], ℕ, ◌+◌, ◌<◌, ◌≤◌, length, get_or};
+ghost use Rattle.std.specs.Prelude.{◌≡◌, true, false, [], ℕ, ◌+◌, ◌<◌, ◌≤◌, length, get_or, IfSome};
 ghost use Rattle.std.proofs.Math.Seq.{slice};
 ghost use Rattle.rules.specs.Utf8.{utf8};
 ghost use Rattle.rules.specs.Result.{accepted};
@@ -10,59 +10,44 @@ ghost use Rattle.verify.specs.Glanced.{Stands, Passed, PassedRight, RightFrom};
 
 use crate::content::NONE;
 use crate::style::{right_opacity, right_size, word};
-use fields::wide;
 use looks::{calm, calm_ahead};
 use utf8::all_bits;
 
-// The place behind a field of the tag and of n bytes, where one stands at `at`; otherwise `at`.
-fn behind(s: &[u8], at: usize, stop: usize, tag: u8, n: usize) -> usize
+// The place behind a field of the tag and of n bytes, where one stands at `at`.
+fn behind(s: &[u8], at: usize, stop: usize, tag: u8, n: usize) -> Option<usize>
     requires { (at ≤ stop) × (stop < length s.now) × (n ≤ 4) }
-    ensures { Passed s.now stop tag n at result }
+    ensures { IfSome result (Passed s.now stop tag n at) }
 {
-    if s[at] != tag {
-        return at;
+    if s[at] == tag && 3 + n <= stop - at && s[at + 1] == 0 && usize::from(s[at + 2]) == n {
+        return Some(at + 3 + n);
     }
-    if stop - at < 3 + n {
-        return at;
-    }
-    if s[at + 1] != 0 {
-        return at;
-    }
-    if wide(s[at + 2]) != n {
-        return at;
-    }
-    at + 3 + n
+    None
 }
 
-// The place behind an opacity, where a right one stands at `at`; otherwise `at`.
-fn behind_opacity(s: &[u8], at: usize, stop: usize) -> usize
+// The place behind an opacity, where a right one stands at `at`.
+fn behind_opacity(s: &[u8], at: usize, stop: usize) -> Option<usize>
     requires { (at ≤ stop) × (stop < length s.now) }
-    ensures { PassedRight s.now stop 33 at result }
+    ensures { IfSome result (PassedRight s.now stop 33 at) }
 {
-    let to = behind(s, at, stop, 33, 4);
-    if to == at {
-        return at;
+    let to = behind(s, at, stop, 33, 4)?;
+    if right_opacity(word(&s[at + 3..to])) {
+        Some(to)
+    } else {
+        None
     }
-    let v = at + 3;
-    if right_opacity(word(&s[v..to])) {
-        return to;
-    }
-    at
 }
 
-// The place behind a size, where a right one stands at `at`; otherwise `at`.
-fn behind_size(s: &[u8], at: usize, stop: usize) -> usize
+// The place behind a size, where a right one stands at `at`.
+fn behind_size(s: &[u8], at: usize, stop: usize) -> Option<usize>
     requires { (at ≤ stop) × (stop < length s.now) }
-    ensures { PassedRight s.now stop 35 at result }
+    ensures { IfSome result (PassedRight s.now stop 35 at) }
 {
-    let to = behind(s, at, stop, 35, 1);
-    if to == at {
-        return at;
+    let to = behind(s, at, stop, 35, 1)?;
+    if right_size(usize::from(s[at + 3])) {
+        Some(to)
+    } else {
+        None
     }
-    if right_size(wide(s[at + 3])) {
-        return to;
-    }
-    at
 }
 
 // What is left of a 16: a 38, a 39, both or nothing.
@@ -70,8 +55,8 @@ fn right_end(s: &[u8], at: usize, stop: usize) -> bool
     requires { (at ≤ stop) × (stop < length s.now) }
     ensures { Says result (RightFrom 37 s.now stop at) }
 {
-    let dim = behind(s, at, stop, 38, 0);
-    behind(s, dim, stop, 39, 0) == stop
+    let dim = behind(s, at, stop, 38, 0).unwrap_or(at);
+    behind(s, dim, stop, 39, 0).unwrap_or(dim) == stop
 }
 
 // What is left of a 16: a script at most, and what may stand behind it.
@@ -79,11 +64,10 @@ fn right_scripts(s: &[u8], at: usize, stop: usize) -> bool
     requires { (at ≤ stop) × (stop < length s.now) }
     ensures { Says result (RightFrom 35 s.now stop at) }
 {
-    let below = behind(s, at, stop, 36, 0);
-    if below != at {
+    if let Some(below) = behind(s, at, stop, 36, 0) {
         return right_end(s, below, stop);
     }
-    let above = behind(s, at, stop, 37, 0);
+    let above = behind(s, at, stop, 37, 0).unwrap_or(at);
     right_end(s, above, stop)
 }
 
@@ -92,8 +76,8 @@ fn right_sizes(s: &[u8], at: usize, stop: usize) -> bool
     requires { (at ≤ stop) × (stop < length s.now) }
     ensures { Says result (RightFrom 33 s.now stop at) }
 {
-    let thick = behind(s, at, stop, 34, 1);
-    let sized = behind_size(s, thick, stop);
+    let thick = behind(s, at, stop, 34, 1).unwrap_or(at);
+    let sized = behind_size(s, thick, stop).unwrap_or(thick);
     right_scripts(s, sized, stop)
 }
 
@@ -102,13 +86,12 @@ fn right_styles(s: &[u8], from: usize, stop: usize) -> bool
     requires { (from ≤ stop) × (stop < length s.now) }
     ensures { Says result ((d place : ℕ) → Between s.now place from stop → RestSaid false in_styles [] d 0 place from (slice from stop s.now) (accepted tt)) }
 {
-    let coloured = behind(s, from, stop, 32, 3);
-    if coloured == stop {
-        return true;
-    }
     let mut at = from;
-    if coloured != from {
-        at = behind_opacity(s, coloured, stop);
+    if let Some(coloured) = behind(s, from, stop, 32, 3) {
+        if coloured == stop {
+            return true;
+        }
+        at = behind_opacity(s, coloured, stop).unwrap_or(coloured);
     }
     right_sizes(s, at, stop)
 }
@@ -118,13 +101,9 @@ pub fn fills(s: &[u8], at: usize, end: usize) -> bool
     requires { (at ≤ end) × (end ≤ length s.now) }
     ensures { Says result (Stands s.now 17 at end) }
 {
-    if end - at < 3 {
-        return false;
-    }
-    if s[at] != 17 {
-        return false;
-    }
-    wide(s[at + 1]) * 256 + wide(s[at + 2]) == end - at - 3
+    3 <= end - at
+        && s[at] == 17
+        && usize::from(s[at + 1]) * 256 + usize::from(s[at + 2]) == end - at - 3
 }
 
 // Bytes that are ASCII.
@@ -132,10 +111,7 @@ fn is_ascii(s: &[u8], from: usize, to: usize) -> bool
     requires { (from ≤ to) × (to ≤ length s.now) }
     ensures { Says result (utf8 (slice from to s.now) ≡ true) }
 {
-    if calm_ahead(s, from, to, NONE) {
-        return true;
-    }
-    all_bits(&s[from..to]) < 128
+    calm_ahead(s, from, to, NONE) || all_bits(&s[from..to]) < 128
 }
 
 // A text that begins with a 16 of at most 255 bytes.
@@ -143,23 +119,15 @@ fn is_plainly_styled(s: &[u8], from: usize, end: usize) -> bool
     requires { (from < end) × (end ≤ length s.now) × (get_or s.now from 0 ≡ 16) }
     ensures { Says result ((d place : ℕ) → Between s.now place from end → RestSaid false in_text [] d 0 place from (slice from end s.now) (accepted tt)) }
 {
-    if end - from < 6 {
+    if end - from < 6 || s[from + 1] != 0 {
         return false;
     }
-    if s[from + 1] != 0 {
-        return false;
-    }
-    let n = wide(s[from + 2]);
+    let n = usize::from(s[from + 2]);
     if end - from - 6 < n {
         return false;
     }
     let stop = from + 3 + n;
-    if right_styles(s, from + 3, stop) {
-        if fills(s, stop, end) {
-            return is_ascii(s, stop + 3, end);
-        }
-    }
-    false
+    right_styles(s, from + 3, stop) && fills(s, stop, end) && is_ascii(s, stop + 3, end)
 }
 
 // The same; in strict mode nothing is said. The mode is asked here: one more test before the last look would make that a call, since the compiler takes
@@ -168,10 +136,7 @@ pub fn is_styled(s: &[u8], from: usize, end: usize, strict: bool) -> bool
     requires { (from < end) × (end ≤ length s.now) × (get_or s.now from 0 ≡ 16) }
     ensures { Says result ((d place : ℕ) → Between s.now place from end → RestSaid strict in_text [] d 0 place from (slice from end s.now) (accepted tt)) }
 {
-    if strict {
-        return false;
-    }
-    is_plainly_styled(s, from, end)
+    !strict && is_plainly_styled(s, from, end)
 }
 
 // A 7, or a text of one 17, of few bytes in ASCII. The node of the tag stands from `at` to `to`. In strict mode nothing is said.
@@ -183,14 +148,9 @@ pub fn is_quick(s: &[u8], at: usize, to: usize, tag: u8, strict: bool) -> bool
         return false;
     }
     let from = at + 3;
-    if tag == 7 {
-        return calm(s, from, to, NONE);
+    match tag {
+        7 => calm(s, from, to, NONE),
+        1 => fills(s, from, to) && calm(s, from + 3, to, NONE),
+        _ => false,
     }
-    if tag != 1 {
-        return false;
-    }
-    if fills(s, from, to) {
-        return calm(s, from + 3, to, NONE);
-    }
-    false
 }

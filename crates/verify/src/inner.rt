@@ -1,5 +1,6 @@
 // What holds no blocks: the fields of a 16, of a text and of an anchor. They stand from `from` to `end`, and the field that holds them at `place`.
-// In strict mode a text has no NUL.
+// In strict mode a text has no NUL. Each kind of value has a function of its own (document 01's form); a loop moves by the length that the bytes say.
+// The slice, its two places and the holder's stay apart: the contracts of `check_text_fields` and its like are over them (docs/CONTRACTS.md).
 ghost use Rattle.std.specs.Prelude.{◌≡◌, Bool, List, [], ℕ, ◌<◌, get_or};
 ghost use Rattle.std.proofs.Math.Seq.{slice};
 ghost use Rattle.rules.specs.Walk.{in_text, in_anchor, in_styles};
@@ -10,7 +11,7 @@ use crate::content::{check_name, check_text};
 use crate::front::no_field;
 use crate::glance::is_styled;
 use crate::seen::{Seen, complete_styles};
-use crate::style::{Styled, check_style, told};
+use crate::style::{check_style, told};
 use crate::tables::{in_styles, is_name};
 use crate::verdict::{SOUND, Verdict, fault};
 use fields::{Field, field_in};
@@ -31,7 +32,7 @@ fn check_styles(s: &[u8], from: usize, end: usize, place: usize) -> Verdict
             return fault(4, at);
         }
         let c = check_style(&s[v..to], tag);
-        let Styled::Right = c else {
+        let Ok(()) = c else {
             return told(c, at);
         };
         seen = seen.with(tag);
@@ -86,13 +87,11 @@ pub fn check_text_fields(s: &[u8], from: usize, end: usize, place: usize, strict
     requires { Between s.now place from end }
     ensures { (d : ℕ) → RestSaid strict in_text [] d 0 place from (slice from end s.now) (verdict result) }
 {
-    if from < end {
-        if s[from] == 16 {
-            if is_styled(s, from, end, strict) {
-                return SOUND;
-            }
-            return check_styled(s, from, end, place, strict);
+    if from < end && s[from] == 16 {
+        if is_styled(s, from, end, strict) {
+            return SOUND;
         }
+        return check_styled(s, from, end, place, strict);
     }
     check_last(s, from, end, place, strict)
 }

@@ -6,61 +6,47 @@ ghost use Rattle.rules.specs.Walk.{allowed, right_length, is_block, in_fragment,
 use rules::{FIRST_STYLE, LAST_STYLE};
 
 // A block, whose depth counts.
+#[tactic(auto, unfolding(rules::specs::Walk::is_block))]
 pub fn is_block(tag: u8) -> bool
     ensures { result ≡ is_block tag }
 {
-    if tag == 3 {
-        return true;
-    }
-    tag == 4
+    matches!(tag, 3 | 4)
 }
 
 // Of a fragment: 1 to 7, after any.
+#[tactic(auto, unfolding(rules::specs::Walk::allowed_to))]
 pub fn in_fragment(tag: u8) -> bool
     ensures { result ≡ allowed in_fragment 0 tag }
 {
-    if tag < 1 {
-        return false;
-    }
-    tag <= 7
+    (1..=7).contains(&tag)
 }
 
 // Of an anchor, first: its name.
+#[tactic(auto, unfolding(rules::specs::Walk::allowed_to))]
 pub fn is_name(tag: u8) -> bool
     ensures { result ≡ allowed in_anchor 0 tag }
 {
-    if tag == 18 {
-        return true;
-    }
-    tag == 19
+    matches!(tag, 18 | 19)
 }
 
 // Of a 16: the style's tags, rising.
+#[tactic(auto, unfolding(rules::specs::Walk::allowed_to))]
 pub fn in_styles(before: u8, tag: u8) -> bool
     ensures { result ≡ allowed in_styles before tag }
 {
-    if tag < FIRST_STYLE {
-        return false;
-    }
-    if LAST_STYLE < tag {
-        return false;
-    }
-    before < tag
+    (FIRST_STYLE..=LAST_STYLE).contains(&tag) && before < tag
 }
 
 // The length that a style's field has.
+#[tactic(auto, unfolding(rules::specs::Walk::right_length))]
 pub fn right_style_length(tag: u8, n: usize) -> bool
     requires { (first_style ≤ tag) × (tag ≤ last_style) }
     ensures { result ≡ right_length tag n }
 {
-    if tag == 32 {
-        return n == 3;
+    match tag {
+        32 => n == 3,
+        33 => n == 4,
+        34 | 35 => n == 1,
+        _ => n == 0,
     }
-    if tag == 33 {
-        return n == 4;
-    }
-    if tag <= 35 {
-        return n == 1;
-    }
-    n == 0
 }

@@ -8,6 +8,7 @@ pub type Verdict = usize;
 
 pub const SOUND: Verdict = 0;
 
+#[tactic(auto, using(crate::proofs::SaidLaws::fault_said))]
 pub fn fault(number: usize, place: usize) -> Verdict
     requires { (0 < number) × ((number < 256) × (place < 2 ^ 48)) }
     ensures { verdict result ≡ refused number place }
@@ -16,11 +17,9 @@ pub fn fault(number: usize, place: usize) -> Verdict
 }
 
 // Two checks, one after the other: the second answers where the first finds nothing.
+#[tactic(auto, using(crate::proofs::SaidLaws::sound_first, crate::proofs::SaidLaws::faulty_first))]
 pub fn in_turn(first: Verdict, second: Verdict) -> Verdict
     ensures { verdict result ≡ both_said (verdict first) (verdict second) }
 {
-    if first != SOUND {
-        return first;
-    }
-    second
+    if first == SOUND { second } else { first }
 }

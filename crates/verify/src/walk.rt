@@ -1,10 +1,11 @@
 // The walk: the fields of a fragment and of a block, from `from` to `end`, and the whole file.
+// Each kind of value has a loop of its own (document 01's form): it moves by the length that the bytes say, and ends at a fault with its place.
 ghost use Rattle.std.specs.Prelude.{◌≡◌, [], ℕ, ◌+◌};
 ghost use Rattle.std.proofs.Math.Seq.{slice};
 ghost use Rattle.rules.specs.Walk.{in_fragment, in_block};
 ghost use Rattle.rules.specs.Answers.{check_answer, strict_check_answer};
 ghost use Rattle.rules.specs.Result.{said, refusal, refused};
-ghost use Rattle.rules.proofs.Refused.{Fault, StrictFault};
+ghost use Rattle.rules.proofs.Refused.{StrictFault};
 ghost use Rattle.verify.specs.Said.{verdict};
 ghost use Rattle.verify.specs.Walked.{RestSaid, ValueSaid, Between, Node, Leaf, answer_in};
 
@@ -15,7 +16,7 @@ use crate::inner::{check_anchor_fields, check_text_fields};
 use crate::tables::{in_fragment, is_block};
 use crate::verdict::{SOUND, Verdict, fault};
 use fields::{Field, field_in};
-use rules::{Answer, MOST_BLOCKS, MOST_BYTES, Refusal};
+use rules::{MOST_BLOCKS, MOST_BYTES, Refusal};
 
 // The value of a node that is no block: the node stands from `at` to `to`.
 fn check_leaf(s: &[u8], at: usize, to: usize, tag: u8, strict: bool) -> Verdict
@@ -106,9 +107,10 @@ fn check_block(s: &[u8], from: usize, end: usize, depth: usize, strict: bool) ->
     SOUND
 }
 
-// Document 01's refusal of a number at a place.
+// The refusal of the walk's number, in either mode, at a place. No `From`, since not every number is one.
+#[tactic(auto, unfolding(rules::specs::Result::refusal))]
 fn refused_by(number: usize, place: usize) -> Refusal
-    requires { Fault number }
+    requires { StrictFault number }
     ensures { refusal {A = ℕ} result ≡ refused number place }
 {
     match number {
@@ -118,44 +120,34 @@ fn refused_by(number: usize, place: usize) -> Refusal
         6 => Refusal::TooDeep(place),
         7 => Refusal::NotUtf8(place),
         8 => Refusal::BadStyle(place),
-        _ => Refusal::QuoteInAnchor(place),
+        9 => Refusal::QuoteInAnchor(place),
+        _ => Refusal::NulInText(place),
     }
-}
-
-// The walk's, in either mode.
-fn refused_in(number: usize, place: usize) -> Refusal
-    requires { StrictFault number }
-    ensures { refusal {A = ℕ} result ≡ refused number place }
-{
-    if number == 14 {
-        return Refusal::NulInText(place);
-    }
-    refused_by(number, place)
 }
 
 // The file check in either mode: at most so many bytes, then the walk.
-fn check_in(file: &[u8], strict: bool) -> Answer
+fn check_in(file: &[u8], strict: bool) -> Result<usize, Refusal>
     ensures { said result ≡ answer_in strict file.now }
 {
     if MOST_BYTES < file.len() {
-        return Answer::Refused(Refusal::TooLong);
+        return Err(Refusal::TooLong);
     }
     let said = check_fragment(file, 0, file.len(), 0, strict);
     if said == SOUND {
-        return Answer::Done(0);
+        return Ok(0);
     }
-    Answer::Refused(refused_in(said % 256, said / 256))
+    Err(refused_by(said % 256, said / 256))
 }
 
 // The file check.
-pub fn check(file: &[u8]) -> Answer
+pub fn check(file: &[u8]) -> Result<usize, Refusal>
     ensures { said result ≡ check_answer file.now }
 {
     check_in(file, false)
 }
 
 // The file check in strict mode, in which a text has no NUL.
-pub fn check_strict(file: &[u8]) -> Answer
+pub fn check_strict(file: &[u8]) -> Result<usize, Refusal>
     ensures { said result ≡ strict_check_answer file.now }
 {
     check_in(file, true)

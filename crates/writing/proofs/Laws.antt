@@ -1,7 +1,9 @@
 -- Laws of writing, for callers: writings in a row, and what a page looks like afterwards.
 use Rattle.rules.proofs.Basics.{◌≡◌, refl, sym, ap, ◌∙◌, List, [], ◌∷◌, ◌++◌, ℕ, suc, ◌+◌, ◌≤◌, min, max, arith, length, set, drop, length-append, length-set, sets-eq}
+use denote.Ref.{at_last}
 use lib.Seq.{sets}
-use Rattle.writing.specs.Written.{last, moved, with_text, Written}
+use Rattle.writing.specs.declared.Page.{Page}
+use Rattle.writing.specs.Written.{last, moved, with_text, Written, Put}
 
 -- ---- positions
 
@@ -78,3 +80,17 @@ fits {page} {text} f l h =
 -- a page without bytes stays so
 pub no_page : {at : ℕ} {text page' : List ℕ} {r : ℕ} → Written [] at text page' r → page' ≡ []
 no_page {at} {text} f = f.page_is ∙ with_none at text
+
+-- ---- the same of a page that is put on
+
+-- nothing is put
+pub put_nothing : {p : Page} → Put p [] p
+put_nothing = record { same = refl; written = nothing }
+
+-- two texts put in a row are one, of the one text after the other
+pub put_then : {p q r : Page} {xs ys : List ℕ} → Put p xs q → Put q ys r → Put p (xs ++ ys) r
+put_then {r = r} f g = record { same = g.same ∙ ap (λ b. at_last b r.bytes.now) f.same; written = then f.written g.written }
+
+-- it stays the page that was lent
+pub same_page : {p q : Page} {text : List ℕ} → Put p text q → q.bytes.ghost_name ≡ p.bytes.ghost_name
+same_page f = ap (λ b. b.ghost_name) f.same

@@ -1,5 +1,5 @@
 -- The bytes of a text that fit, written at once to the part of the page where they stand.
-use Rattle.rules.proofs.Basics.{◌≡◌, refl, sym, ap, ◌∙◌, List, [], ◌∷◌, ◌++◌, append_assoc, ℕ, zero, suc, ◌+◌, ◌-◌, ◌<◌, ◌≤◌, min, max, arith, length, take, drop, replicate, length-take, length-drop, length-replicate, take-append-drop, set_out, sets-eq, drop-drop, length-take-le, take_all}
+use Rattle.rules.proofs.Basics.{◌≡◌, refl, sym, ap, ◌∙◌, List, [], ◌∷◌, ◌++◌, append_assoc, ℕ, ◌+◌, ◌-◌, ◌<◌, ◌≤◌, min, max, arith, length, take, drop, length-take, length-drop, take-append-drop, set_out, sets-eq, drop-drop, length-take-le, take_all}
 use Rattle.writing.specs.Written.{last, moved, with_text, Written}
 use Rattle.writing.proofs.Laws.{with_append, with_length, with_sets}
 
@@ -67,26 +67,26 @@ module _ (page : List ℕ) (at : ℕ) (text : List ℕ) {l : ℕ} (c : length te
       let i : at ≤ length page = omega arith in
       record { next = rw c p; page_is = part_is page at text n in_reach i (omega arith) n refl q }
 
--- ---- spaces
-
-take_replicate : (n m b : ℕ) → n ≤ m → take n (replicate m b) ≡ replicate n b
-take_replicate zero m b h = refl
-take_replicate (suc n) zero b h = absurd (omega arith)
-take_replicate (suc n) (suc m) b h = ap (b ∷◌) (take_replicate n m b (omega arith))
-
 -- a part of k bytes
 part_length : (page : List ℕ) (at k : ℕ) → k ≤ length page - at → length (take k (drop at page)) ≡ k
 part_length page at k h = rw (length-take, length-drop) (omega arith)
 
-module _ (page : List ℕ) (at m b : ℕ) (in_reach : length page ≤ last) (inside : at < length page) {ys : List ℕ} where
-  pub all_spaces_fit : m ≤ length page - at → ys ≡ replicate (length (take ((at + m) - at) (drop at page))) b
-      → Written page at (replicate m b) (take at page ++ (ys ++ drop ((at + m) - at) (drop at page))) (at + m)
-  all_spaces_fit h f =
-      let k : (at + m) - at ≡ m = omega arith in
-      all_fits page at (replicate m b) (length-replicate m b) in_reach inside h (f ∙ rw (k, part_length page at m h))
+-- ---- a text that is put over a part as far as it fits there
 
-  pub some_spaces_fit : {r : ℕ} → length page - at < m → r ≡ moved at m → ys ≡ replicate (length (take (length page - at) (drop at page))) b
-      → Written page at (replicate m b) (take at page ++ (ys ++ drop (length page - at) (drop at page))) r
-  some_spaces_fit h p f =
-      let n = length page - at in
-      some_fits page at (replicate m b) (length-replicate m b) in_reach inside h p (f ∙ rw (part_length page at n (omega arith), take_replicate n m b (omega arith)))
+-- `ys`, put over a part of at most the text's length, is the text's beginning
+abbrev Beginning : (l : ℕ) (text part ys : List ℕ) → Type 0
+Beginning l text part ys = length part ≤ l → ys ≡ take (length part) text
+
+module _ (page : List ℕ) (at : ℕ) (text : List ℕ) {l : ℕ} (c : length text ≡ l) (in_reach : length page ≤ last) (inside : at < length page) {ys : List ℕ} where
+  pub all_put : l ≤ length page - at → Beginning l text (take ((at + l) - at) (drop at page)) ys
+      → Written page at text (take at page ++ (ys ++ drop ((at + l) - at) (drop at page))) (at + l)
+  all_put h q =
+      let k : (at + l) - at ≡ l = omega arith in
+      let n : length (take ((at + l) - at) (drop at page)) ≡ l = rw k (part_length page at l h) in
+      all_fits page at text c in_reach inside h (q (omega (arith, n)) ∙ rw n (take_all l text (omega arith)))
+
+  pub some_put : {r : ℕ} → length page - at < l → r ≡ moved at l → Beginning l text (take (length page - at) (drop at page)) ys
+      → Written page at text (take at page ++ (ys ++ drop (length page - at) (drop at page))) r
+  some_put h p q =
+      let n = part_length page at (length page - at) (omega arith) in
+      some_fits page at text c in_reach inside h p (q (omega (arith, n)) ∙ rw n refl)

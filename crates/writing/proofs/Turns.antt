@@ -1,18 +1,11 @@
 -- One byte written.
-use Rattle.rules.proofs.Basics.{◌≡◌, refl, sym, List, [], ◌∷◌, ℕ, ◌+◌, ◌<◌, ◌≤◌, arith, length, set, set_out}
+use Rattle.rules.proofs.Basics.{◌≡◌, refl, sym, List, [], ◌∷◌, ℕ, ◌+◌, ◌≤◌, min, arith, length, set, set_out}
 use Rattle.writing.specs.Written.{last, moved, with_text, Written}
 
--- ---- a position
-
-pub moves : (at : ℕ) → at < last → at + 1 ≡ moved at 1
+-- a sum that saturates is the position n bytes on
+pub saturated : {at r : ℕ} (n : ℕ) → at ≤ last → r ≡ min (at + n) last → r ≡ moved at n
 unfolding moved
-moves at h = omega arith
-
-pub stays : (at : ℕ) → last ≤ at → at ≡ moved at 1
-unfolding moved
-stays at h = omega arith
-
--- ---- a byte
+saturated n h e = omega (arith, h, e)
 
 module _ (page : List ℕ) (at b : ℕ) {r : ℕ} (e : r ≡ moved at 1) where
   -- within the page

@@ -4,11 +4,11 @@ use Prim.Native.Nat.{ℕ}
 use lib.ListN.{length-replicate}
 use Rattle.alike.proofs.pages_alike.Goals as goal
 
-pub slice_bounds-ask-end : goal.slice_bounds-ask-end
-slice_bounds-ask-end c = sym (length-replicate {A = ℕ} 65_536 0)
+pub slice_bounds-entry-end : goal.slice_bounds-entry-end
+slice_bounds-entry-end g c = sym (length-replicate {A = ℕ} 65_536 0)
 
-pub slice_bounds-ask-end-2 : goal.slice_bounds-ask-end-2
-slice_bounds-ask-end-2 c = sym (length-replicate {A = ℕ} 65_536 0)
+pub slice_bounds-entry-end-2 : goal.slice_bounds-entry-end-2
+slice_bounds-entry-end-2 g c = sym (length-replicate {A = ℕ} 65_536 0)
 
-pub slice_bounds-ask-end-3 : goal.slice_bounds-ask-end-3
-slice_bounds-ask-end-3 c = sym (length-replicate {A = ℕ} 65_536 0)
+pub slice_bounds-entry-end-3 : goal.slice_bounds-entry-end-3
+slice_bounds-entry-end-3 g c = sym (length-replicate {A = ℕ} 65_536 0)

@@ -1,19 +1,28 @@
 -- `digits::put_signed` meets its contract.
-use Rattle.rules.proofs.Basics.{refl, ap, ◌∙◌, ℤ, pos, nat_abs, arith, rules}
+use Rattle.rules.proofs.Basics.{◌≡◌, ◌∙◌, ap, ℤ, pos, nat_abs, length, arith}
 use lib.Signed.{lt_z}
-use Rattle.digits.proofs.Figures.{signed}
-use Rattle.digits.proofs.Filling.{to_the_end}
-use Rattle.digits.proofs.Wider.{as_held}
+use mir.Syntax.{w32}
+use mir.Val.{to_z, of_z}
+use mir.Facts.{to_z-of_z}
+use Rattle.rules.specs.Digits.{digits}
+use Rattle.digits.proofs.Figures.{alone, signed}
+use Rattle.digits.proofs.Gathered.{few_digits}
 use Rattle.digits.proofs.put_signed.Goals as goal
 
-pub fill_digits-from-requires : goal.fill_digits-from-requires
-fill_digits-from-requires c = (refl, omega arith, omega arith, search rules)
+pub push_digits-requires : goal.push_digits-requires
+push_digits-requires c =
+    omega (arith, ap length c.new-numeral.ensures, few_digits 10 c.from.result (omega arith) (omega (arith, c.from.ensures, c.unsigned_abs.ensures.bound)))
 
-pub fill_sign-start-requires : goal.fill_sign-start-requires
-fill_sign-start-requires c =
-    (c.fill_digits-from.ensures.1.long, c.fill_digits-from.ensures.0, c.fill_digits-from.ensures.1.within)
+pub push_sign-requires : goal.push_sign-requires
+push_sign-requires c =
+    omega (arith, ap length (alone (digits c.from.result) c.new-numeral.ensures c.push_digits.ensures), few_digits 10 c.from.result (omega arith) (omega (arith, c.from.ensures, c.unsigned_abs.ensures.bound)))
+
+-- a number as the code has it: through its bits
+abbrev held : ℤ → ℤ
+held z = to_z w32 (of_z w32 z)
 
 pub returns : goal.returns
 returns c =
-    let z = as_held c.ranges.z in
-    rw (to_the_end (signed c.args.z (ap (λ (y : ℤ). lt_z y (pos 0)) z) (c.size.ensures ∙ ap nat_abs z) refl c.fill_digits-from.ensures.1 c.fill_sign-start.ensures)) at c.put_bytes.ensures
+    let z : held c.args.z ≡ c.args.z = to_z-of_z c.ranges.z in
+    let size = c.from.ensures ∙ c.unsigned_abs.ensures.value ∙ ap nat_abs z in
+    rw (c.text.ensures ∙ signed c.args.z (ap (λ (y : ℤ). lt_z y (pos 0)) z) size (alone (digits c.from.result) c.new-numeral.ensures c.push_digits.ensures) c.push_sign.ensures) at c.put_bytes.ensures

@@ -1,9 +1,8 @@
--- `looks::calm_eight` meets its contract. The loop's invariant: where nothing odd was found, the bytes behind are calm.
-use Rattle.looks.proofs.Windows.{none_looked, looked_at}
+-- `looks::calm_eight` meets its contract.
+use Rattle.rules.proofs.Basics.{rules}
+use borrow.Author.Tests.{tests}
+use Rattle.looks.proofs.Windows.{told}
 use Rattle.looks.proofs.calm_eight.Goals as goal
 
-pub loop-k-init : goal.loop-k-init
-loop-k-init c = none_looked _ _ _
-
 pub returns : goal.returns
-returns c = looked_at c.loop-k.invariant c.loop-k-test.false
+returns c = told c.is_clear.ensures (λ b p. search (rules, tests))

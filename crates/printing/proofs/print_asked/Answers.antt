@@ -9,4 +9,4 @@ returns-then-input-lt2 g c = unfold asked in rw (lt-leb _ _ c.if-input-lt2.true)
 
 pub returns : goal.returns
 returns g c =
-    asked_laid _ _ _ c.if-input-lt2.false c.wide.ensures.0 c.wide-2.ensures.0 c.lay_out_and_print.ensures
+    asked_laid _ _ _ c.if-input-lt2.false c.width_in-width.ensures c.lay_out_and_print.ensures

@@ -12,4 +12,4 @@ pub print_answer-requires : goal.print_answer-requires
 print_answer-requires g c = record { in_page = λ n q. print_in_page _ _ _ q _ c.print_at-a.ensures }
 
 pub returns : goal.returns
-returns g c = asked_plainly _ _ c.if-input-lt2.false c.wide.ensures.0 c.wide-2.ensures.0 c.print_at-a.ensures
+returns g c = asked_plainly _ _ c.if-input-lt2.false c.width_in.ensures c.print_at-a.ensures

@@ -1,14 +1,10 @@
--- `rigid::text_layout` meets its contract: one part, or a first and a last.
-use Rattle.rigid.proofs.Lines.{one_line, lines}
+-- `rigid::text_layout` meets its contract: a short line, or any text.
+use Rattle.fields.specs.Walk.{part}
+use Rattle.rigid.proofs.Lines.{lacking_line}
 use Rattle.rigid.proofs.text_layout.Goals as goal
 
-pub returns-then-first-v : goal.returns-then-first-v
-returns-then-first-v c =
-    one_line _ _ c.first_line_end-first.ensures c.columns.ensures c.if-first-v.true
-    c.inline.ensures
+pub returns-then-lacks : goal.returns-then-lacks
+returns-then-lacks c = lacking_line c.args.w c.requires.0 c.requires.1 c.lacks.ensures c.if-lacks.true c.columns.ensures c.inline.ensures
 
 pub returns : goal.returns
-returns c =
-    lines _ _ c.first_line_end-first.ensures c.columns-2.ensures
-    c.after_last.ensures c.columns-3.ensures c.if-first-v.false
-    c.block_or_mixed.ensures
+returns c = unfold part in c.lines_layout.ensures

@@ -1,5 +1,6 @@
 -- `shapes::append_to_block` meets its contract.
 use Rattle.rules.proofs.Basics.{refl}
+use Rattle.shapes.proofs.Appending.{saturated}
 use Rattle.shapes.proofs.Numbers.{line, lines}
 use Rattle.rules.specs.Layout.{◌⊕◌}
 use Rattle.shapes.proofs.append_to_block.Goals as goal
@@ -10,4 +11,4 @@ returns-then-is_block c =
 
 pub returns : goal.returns
 returns c =
-    unfold ◌⊕◌ in rw (line _ c.is_block.ensures c.first.ensures refl c.if-is_block.false) (rw c.saturating_add.ensures at c.block_or_mixed-2.ensures)
+    unfold ◌⊕◌ in rw (line _ c.is_block.ensures c.first.ensures refl c.if-is_block.false) (rw (saturated _ c.saturating_add.ensures) at c.block_or_mixed-2.ensures)

@@ -3,4 +3,4 @@ use Rattle.shapes.proofs.Numbers.{lines_number}
 use Rattle.shapes.proofs.block_or_mixed.Goals as goal
 
 pub returns : goal.returns
-returns c = lines_number _ _ c.ranges.pre.fits c.ranges.post.fits
+returns c = rw (c.from.ensures, c.from-2.ensures) (lines_number _ _ c.ranges.pre.fits c.ranges.post.fits)

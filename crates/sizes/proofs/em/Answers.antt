@@ -10,7 +10,7 @@ use Rattle.sizes.proofs.em.Goals as goal
 
 pub entry-requires : goal.entry-requires
 unfolding all_open place_of decimal_at same test
-entry-requires c = record { right = tested _ _ tt; size_bound = search rules }
+entry-requires c = record { right = tested _ tt; size_bound = search rules }
 
 pub returns : goal.returns
 returns c = rw (passed c.ranges.size) at c.entry.ensures

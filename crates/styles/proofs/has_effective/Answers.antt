@@ -1,14 +1,20 @@
 -- `styles::has_effective` meets its contract.
-use mathlib.Core.Path.{sym, ap}
+use Rattle.rules.proofs.Basics.{sym, ap, ◌∙◌, false≢true}
 use Rattle.styles.specs.Said.{is_there}
 use Rattle.styles.proofs.Sizes.{own_size, script_size, without_size}
 use Rattle.styles.proofs.has_effective.Goals as goal
-
-pub returns-then-st : goal.returns-then-st
-returns-then-st c = unfold is_there in sym (ap is_there (own_size _ c.if-st.true))
+use Rattle.styles.proofs.has_effective.Goals.{then-st, else-st}
 
 pub returns-then-st-2 : goal.returns-then-st-2
-returns-then-st-2 c = unfold is_there in sym (ap is_there (script_size _ c.if-st.false (rw c.if-st-2.true)))
+unfolding is_there
+returns-then-st-2 c = c.if-st-2.true ∙ elim c.if-st.branch [
+  | then-st w ↦ sym (ap is_there (own_size _ w.if-st.true))
+  | else-st w ↦ sym (ap is_there (script_size _ w.if-st.false (rw (sym w.value-is ∙ c.if-st-2.true))))
+]
 
-pub returns : goal.returns
-returns c = without_size _ c.if-st.false c.if-st-2.false
+pub returns-else-st-2 : goal.returns-else-st-2
+unfolding is_there
+returns-else-st-2 c = elim c.if-st.branch [
+  | then-st w ↦ absurd (false≢true (sym c.if-st-2.false ∙ w.value-is ∙ w.if-st.true))
+  | else-st w ↦ without_size _ w.if-st.false (sym w.value-is ∙ c.if-st-2.false)
+]

@@ -4,12 +4,13 @@ use Rattle.rules.specs.Walk.{right_opacity}
 use Rattle.styles.proofs.opacity_allowed.Goals as goal
 
 pub returns-then-bits-eq0 : goal.returns-then-bits-eq0
-returns-then-bits-eq0 c = unfold right_opacity in rw (eq-eqb _ 0 c.if-bits-eq0.true)
+unfolding right_opacity
+returns-then-bits-eq0 c = rw (eq-eqb _ 0 c.if-bits-eq0.true)
 
-pub returns-then-bits-lt981467136 : goal.returns-then-bits-lt981467136
-returns-then-bits-lt981467136 c =
-    unfold right_opacity in rw (ne_eqb _ 0 c.if-bits-eq0.false, lt-leb 0x3a80_0000 _ c.if-bits-lt981467136.true)
+pub returns-then-bits-ge-LEAST_OPACITY : goal.returns-then-bits-ge-LEAST_OPACITY
+unfolding right_opacity
+returns-then-bits-ge-LEAST_OPACITY c = rw (ne_eqb _ 0 c.if-bits-eq0.false, le-leb 0x3a80_0000 _ c.if-bits-ge-LEAST_OPACITY.true)
 
-pub returns : goal.returns
-returns c =
-    unfold right_opacity in rw (ne_eqb _ 0 c.if-bits-eq0.false, le-leb 0x3a80_0000 _ c.if-bits-lt981467136.false)
+pub returns-else-bits-ge-LEAST_OPACITY : goal.returns-else-bits-ge-LEAST_OPACITY
+unfolding right_opacity
+returns-else-bits-ge-LEAST_OPACITY c = rw (ne_eqb _ 0 c.if-bits-eq0.false, lt-leb 0x3a80_0000 _ c.if-bits-ge-LEAST_OPACITY.false)

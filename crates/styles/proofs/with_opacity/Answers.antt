@@ -1,25 +1,23 @@
--- `styles::with_opacity` meets its contract: another length, or bits that are not allowed, are passed over; the float of allowed bits has those bits.
-use Rattle.rules.proofs.Basics.{sym, ◌∙◌, eq-eqb, ne_eqb}
+-- `styles::with_opacity` meets its contract: bits that are not allowed are passed over; the float of allowed bits has those bits.
+use Rattle.rules.proofs.Basics.{◌≡◌, sym, ◌∙◌, arith}
 use Rattle.styles.specs.Said.{said_styles, flagged}
-use Rattle.styles.specs.StylesIn.{right_value, put_part}
-use Rattle.rules.specs.Walk.{right_length}
+use Rattle.styles.specs.StylesIn.{put_part}
+use Rattle.rules.specs.Bytes.{number}
+use Rattle.rules.proofs.Lengths.{number_four}
 use Rattle.styles.proofs.Opacity.{right_below, no_nan, bits_back}
-use Rattle.styles.proofs.Parts.{passed_over, put_in}
+use Rattle.styles.proofs.Parts.{passed_over, put_in, opacity_counts}
 use Rattle.styles.proofs.with_opacity.Goals as goal
 
-pub returns-then-v-ne4 : goal.returns-then-v-ne4
-returns-then-v-ne4 c = unfold right_value right_length in passed_over _ 33 _ (rw (ne_eqb _ 4 c.if-v-ne4.true))
+pub float_from_bits-st : goal.float_from_bits-st
+float_from_bits-st c = no_nan _ (right_below _ (sym c.opacity_allowed.ensures ∙ c.if-not-opacity_allowed.false))
 
-pub float_from_bits-out : goal.float_from_bits-out
-float_from_bits-out c = no_nan _ (right_below _ (sym c.opacity_allowed.ensures ∙ c.if-opacity_allowed.true))
-
-pub returns-then-opacity_allowed : goal.returns-then-opacity_allowed
-returns-then-opacity_allowed c =
-    unfold said_styles flagged put_part right_value right_length in let right = sym c.opacity_allowed.ensures ∙ c.if-opacity_allowed.true in
-    rw (bits_back _ (right_below _ right), c.four_bytes-bits.ensures)
-    (put_in _ 33 _ (rw (eq-eqb _ 4 c.if-v-ne4.false, ← c.four_bytes-bits.ensures, right)))
+pub returns-then-not-opacity_allowed : goal.returns-then-not-opacity_allowed
+returns-then-not-opacity_allowed c =
+    passed_over _ 33 _ (opacity_counts _ (omega arith) c.from_be_bytes-bits.ensures (sym c.opacity_allowed.ensures ∙ c.if-not-opacity_allowed.true))
 
 pub returns : goal.returns
+unfolding said_styles flagged put_part
 returns c =
-    unfold right_value right_length in let wrong = sym c.opacity_allowed.ensures ∙ c.if-opacity_allowed.false in
-    passed_over _ 33 _ (rw (eq-eqb _ 4 c.if-v-ne4.false, ← c.four_bytes-bits.ensures, wrong))
+    let right = sym c.opacity_allowed.ensures ∙ c.if-not-opacity_allowed.false in
+    let is : c.from_be_bytes-bits.result ≡ number c.args.v.now = omega (arith, number_four c.args.v.now (omega arith)) in
+    rw (bits_back _ (right_below _ right), is) (put_in _ 33 _ (opacity_counts _ (omega arith) c.from_be_bytes-bits.ensures right))

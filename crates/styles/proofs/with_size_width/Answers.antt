@@ -1,22 +1,18 @@
--- `styles::with_size_width` meets its contract: another length, or a size that is not allowed, is passed over.
-use Rattle.rules.proofs.Basics.{refl, sfits_of}
-use Rattle.styles.proofs.Sizes.{size_tested, width_at, sized_fits}
-use Rattle.styles.proofs.Widths.{size_put, size_passed, other_length}
+-- `styles::with_size_width` meets its contract: without a size that counts the width stays.
+use Rattle.rules.proofs.Basics.{refl, sym, ◌∙◌, rules}
+use mir.Syntax.{w8}
+use mir.Val.{SFits}
+use Rattle.styles.proofs.Sizes.{width_at, sized_fits}
+use Rattle.styles.proofs.Widths.{size_put, size_passed}
 use Rattle.styles.proofs.with_size_width.Goals as goal
 
-pub returns-then-v-ne1 : goal.returns-then-v-ne1
-returns-then-v-ne1 c = other_length _ _ c.if-v-ne1.true
-
 pub overflow_add-result : goal.overflow_add-result
-overflow_add-result c = let s = c.signed_byte-given in sized_fits {z = s.result} (sfits_of s.type_inv) c.sized_width.ensures
+overflow_add-result c = let f : SFits w8 c.in-Some.size = search rules in sized_fits f c.sized_width.ensures
 
-pub returns-then-given-le-MAX_SIZE : goal.returns-then-given-le-MAX_SIZE
-returns-then-given-le-MAX_SIZE c =
-    let s = c.signed_byte-given in
-    let fits = sfits_of s.type_inv in
-    size_put _ _ c.if-v-ne1.false (size_tested _ _ fits s.ensures c.if-given-le-MAX_SIZE.true refl) (width_at fits c.sized_width.ensures s.ensures)
+pub returns-in-Some : goal.returns-in-Some
+returns-in-Some c =
+    let f : SFits w8 c.in-Some.size = search rules in
+    size_put _ _ (sym c.size_in.ensures ∙ c.in-Some.is) (width_at f c.sized_width.ensures refl)
 
-pub returns : goal.returns
-returns c =
-    let s = c.signed_byte-given in
-    size_passed _ _ c.if-v-ne1.false (size_tested _ _ (sfits_of s.type_inv) s.ensures c.if-given-le-MAX_SIZE.false refl)
+pub returns-in-None : goal.returns-in-None
+returns-in-None c = size_passed _ _ (sym c.size_in.ensures ∙ c.in-None.is)

@@ -1,7 +1,7 @@
 -- `utf8::begin` meets its contract: the bytes of each arm's range are all followed alike, as `following` computes at each of them.
 use Rattle.rules.proofs.Basics.{refl, arith}
+use Rattle.std.specs.Prelude.{None}
 use Rattle.rules.specs.Utf8.{following}
-use Rattle.utf8.specs.declared.Begun.TheVariants.{Never}
 use Rattle.utf8.specs.Owing.{ranges}
 use Rattle.utf8.proofs.Table.{between}
 use Rattle.utf8.proofs.begin.Goals as goal
@@ -44,8 +44,8 @@ returns-in-241-to-243 c =
 
 pub returns-in_default : goal.returns-in_default
 returns-in_default c =
-    unfold following ranges in between 0x80 0xc1 {r = Never} refl refl c.args.b (omega arith) (omega arith)
+    unfold following ranges in between 0x80 0xc1 {r = None} refl refl c.args.b (omega arith) (omega arith)
 
 pub returns-in_default-2 : goal.returns-in_default-2
 returns-in_default-2 c =
-    unfold following ranges in between 0xf5 0xff {r = Never} refl refl c.args.b (omega arith) (omega arith)
+    unfold following ranges in between 0xf5 0xff {r = None} refl refl c.args.b (omega arith) (omega arith)

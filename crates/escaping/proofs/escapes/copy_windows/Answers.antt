@@ -1,20 +1,11 @@
 -- `escaping::escapes::copy_windows` meets its contract. The loop's invariant: n bytes are copied.
-use Rattle.rules.proofs.Basics.{arith}
-use Rattle.escaping.proofs.RunLaws.{none_begun, window_copied, begun_kept}
+use Rattle.rules.proofs.Basics.{arith, rules}
+use Rattle.escaping.proofs.RunLaws.{none_copied, window_copied}
 use Rattle.escaping.proofs.escapes.copy_windows.Goals as goal
 
-pub loop-n-init : goal.loop-n-init
-loop-n-init c = none_begun
+pub loop-w-init : goal.loop-w-init
+loop-w-init c = none_copied
 
-pub shape_of-page-then-not-is_plain : goal.shape_of-page-then-not-is_plain
-shape_of-page-then-not-is_plain c = search begun_kept
-
-pub paste-requires : goal.paste-requires
-paste-requires c = omega (arith, begun_kept c.loop-n.invariant)
-
-pub loop-n-preserved : goal.loop-n-preserved
-loop-n-preserved c =
-    window_copied c.loop-n.invariant (omega arith) (omega arith) (c.is_plain.ensures c.if-not-is_plain.false) c.window.ensures c.paste.ensures
-
-pub shape_of-page : goal.shape_of-page
-shape_of-page c = search begun_kept
+pub loop-w-preserved : goal.loop-w-preserved
+loop-w-preserved c =
+    window_copied c.loop-w.invariant (omega arith) (λ b p. search rules) c.in-Some.ensures.cases (c.is_clear.ensures.says c.if-not-is_clear.false) c.paste.ensures

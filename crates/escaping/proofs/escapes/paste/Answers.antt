@@ -1,20 +1,9 @@
--- `escaping::escapes::paste` meets its contract. The loop's invariant: the first k bytes are on the page.
-use Rattle.rules.proofs.Basics.{arith}
-use Rattle.writing.proofs.Laws.{kept}
-use Rattle.escaping.proofs.RunLaws.{none_pasted, one_pasted, all_pasted}
+-- `escaping::escapes::paste` meets its contract.
+use Rattle.rules.proofs.Basics.{◌≡◌, length, arith, rules}
+use Rattle.writing.proofs.Parts.{all_fits}
 use Rattle.escaping.proofs.escapes.paste.Goals as goal
 
-pub loop-k-init : goal.loop-k-init
-loop-k-init c = none_pasted _ _ _
-
-pub bounds-page-at : goal.bounds-page-at
-bounds-page-at c = omega (arith, kept c.loop-k.invariant.written)
-
-pub loop-k-preserved : goal.loop-k-preserved
-loop-k-preserved c = one_pasted c.loop-k.invariant (omega arith) c.well_formed.1.1.0.1.0.1 (omega arith)
-
 pub returns : goal.returns
-returns c = all_pasted c.loop-k.invariant (omega arith) c.well_formed.1.1.0.1.0.1
-
-pub shape_of-page : goal.shape_of-page
-shape_of-page c = kept (returns c)
+returns c =
+    let g : length c.args.w ≡ 8 = search rules in
+    all_fits _ _ _ g (omega arith) (omega arith) (omega arith) c.copy_from_slice.ensures.after

@@ -6,8 +6,8 @@ use Rattle.laying.proofs.LeafLaws.{other_four}
 use Rattle.laying.proofs.Clears.{clear_later}
 use Rattle.laying.proofs.NodeLaws.{node_deep, node_inside, node_three, node_four}
 use Rattle.laying.proofs.FragmentLaws.{fragments_start, fragments_short, fragments_tag, fragment_wrong, fragment_turn, fragments_end}
-use Rattle.laying.proofs.BlockLaws.{blocks_start, blocks_inside, next_less, leaf_turn, next_value, block_wrong, block_turn, blocks_end}
-use Rattle.laying.proofs.WholeFragments.{nodes_start, nodes_wrong, blocks_clear, blocks_part, stretch_wrong, stretch_less, stretch_on, nodes_end}
+use Rattle.laying.proofs.BlockLaws.{blocks_start, next_less, leaf_turn, next_value, block_wrong, block_turn, blocks_end}
+use Rattle.laying.proofs.WholeFragments.{nodes_start, nodes_wrong, blocks_clear, blocks_part, stretch_wrong, stretch_on, nodes_end}
 use Rattle.laying.proofs.flex.+approx_flex_layout_approx_fragments_layout_approx_layout_approx_stretch_layout.Goals as goal
 
 pub approx_flex_layout-returns-then-depth-ge-MOST_BLOCKS : goal.approx_flex_layout-returns-then-depth-ge-MOST_BLOCKS
@@ -51,28 +51,17 @@ approx_flex_layout-returns-then-l-eq-BAD-2 t c =
     let k = c.requires.1.1 in
     node_inside C P k c.if-depth-ge-MOST_BLOCKS.false c.approx_fragments_layout-l-2.ensures c.if-l-eq-BAD-2.true
 
-pub approx_flex_layout-decide-requires : goal.approx_flex_layout-decide-requires
-approx_flex_layout-decide-requires t c =
-    let C = c.requires.0 in
-    let P = c.requires.1.0 in
-    (omega (arith, P.rising, P.ends, C.short), c.approx_fragments_layout-l-2.ensures.words ∙ C.words)
-
 pub approx_flex_layout-returns : goal.approx_flex_layout-returns
 approx_flex_layout-returns t c =
     let C = c.requires.0 in
     let P = c.requires.1.0 in
     let k = c.requires.1.1 in
     node_four C P k c.if-depth-ge-MOST_BLOCKS.false c.approx_fragments_layout-l-2.ensures c.if-l-eq-BAD-2.false (other_four k c.if-s-at-eq3.false)
-    c.saturating_sub-block.ensures c.room-most.ensures c.larger.ensures c.decide.ensures
+    c.saturating_sub-block.ensures c.room-most.ensures c.max.ensures c.decide.ensures
 
 pub approx_fragments_layout-loop-at-init : goal.approx_fragments_layout-loop-at-init
 approx_fragments_layout-loop-at-init t c =
     fragments_start c.requires.0 c.requires.1 c.inline-layout.ensures
-
-pub approx_fragments_layout-field_in-f-requires : goal.approx_fragments_layout-field_in-f-requires
-approx_fragments_layout-field_in-f-requires t c =
-    let P = c.loop-at.invariant.come.part in
-    (P.rising, P.ends)
 
 pub approx_fragments_layout-returns-in_default : goal.approx_fragments_layout-returns-in_default
 approx_fragments_layout-returns-in_default t c =
@@ -125,32 +114,22 @@ pub approx_layout-loop-at-init : goal.approx_layout-loop-at-init
 approx_layout-loop-at-init t c =
     nodes_start c.requires.0 c.requires.1 c.inline-layout.ensures
 
-pub approx_layout-ahead-st-requires : goal.approx_layout-ahead-st-requires
-approx_layout-ahead-st-requires t c =
-    (c.loop-at-test.true, c.loop-at.invariant.part)
-
-pub approx_layout-returns-then-st-at : goal.approx_layout-returns-then-st-at
-approx_layout-returns-then-st-at t c =
-    nodes_wrong c.loop-at.invariant (c.ahead-st.ensures.wrong c.if-st-at.true _) refl
+pub approx_layout-returns-in_default : goal.approx_layout-returns-in_default
+approx_layout-returns-in_default t c = nodes_wrong c.loop-at.invariant (c.in_default.ensures _) refl
 
 pub approx_layout-approx_stretch_layout-l-requires : goal.approx_layout-approx_stretch_layout-l-requires
 approx_layout-approx_stretch_layout-l-requires t c =
     let I = c.loop-at.invariant in
-    let S = c.ahead-st.ensures in
-    let o = c.if-st-at.false in
-    (omega (arith, c.decreases), (blocks_clear I S o, (blocks_part I S o, ((S.laid o).middle, (S.sound o).middle))))
+    let S = c.in-Some.ensures in
+    (omega (arith, c.decreases), (blocks_clear I S, (blocks_part I S, (S.laid.middle, S.seen.middle))))
 
 pub approx_layout-returns-then-l-eq-BAD : goal.approx_layout-returns-then-l-eq-BAD
 approx_layout-returns-then-l-eq-BAD t c =
-    stretch_wrong c.loop-at.invariant c.ahead-st.ensures c.if-st-at.false c.approx_stretch_layout-l.ensures c.if-l-eq-BAD.true
-
-pub approx_layout-loop-at-smaller : goal.approx_layout-loop-at-smaller
-approx_layout-loop-at-smaller t c =
-    stretch_less c.loop-at.invariant c.ahead-st.ensures c.if-st-at.false
+    stretch_wrong c.loop-at.invariant c.in-Some.ensures c.approx_stretch_layout-l.ensures c.if-l-eq-BAD.true
 
 pub approx_layout-loop-at-preserved : goal.approx_layout-loop-at-preserved
 approx_layout-loop-at-preserved t c =
-    stretch_on c.loop-at.invariant c.ahead-st.ensures c.if-st-at.false c.approx_stretch_layout-l.ensures c.if-l-eq-BAD.false c.behind-layout.ensures
+    stretch_on c.loop-at.invariant c.in-Some.ensures c.approx_stretch_layout-l.ensures c.if-l-eq-BAD.false c.behind-layout.ensures
 
 pub approx_layout-returns : goal.approx_layout-returns
 approx_layout-returns t c =
@@ -160,37 +139,26 @@ pub approx_stretch_layout-loop-node-init : goal.approx_stretch_layout-loop-node-
 approx_stretch_layout-loop-node-init t c =
     blocks_start c.requires.0 c.requires.1.0 c.requires.1.1.0 c.requires.1.1.1
 
-pub approx_stretch_layout-field_end_in-to-requires : goal.approx_stretch_layout-field_end_in-to-requires
-approx_stretch_layout-field_end_in-to-requires t c =
-    let I = c.loop-node.invariant in
-    (blocks_inside I c.loop-node-test.true, I.part.ends)
-
-pub approx_stretch_layout-bounds-s-node : goal.approx_stretch_layout-bounds-s-node
-approx_stretch_layout-bounds-s-node t c =
-    let I = c.loop-node.invariant in
-    let h = blocks_inside I c.loop-node-test.true in
-    omega (arith, h, I.part.ends)
-
-pub approx_stretch_layout-loop-node-smaller-then-not-is_flexible : goal.approx_stretch_layout-loop-node-smaller-then-not-is_flexible
-approx_stretch_layout-loop-node-smaller-then-not-is_flexible t c =
+pub approx_stretch_layout-loop-node-smaller-then-not-is_block : goal.approx_stretch_layout-loop-node-smaller-then-not-is_block
+approx_stretch_layout-loop-node-smaller-then-not-is_block t c =
     let I = c.loop-node.invariant in
     let g = c.loop-node-test.true in
     let e = c.field_end_in-to.ensures in
     next_less I g e
 
-pub approx_stretch_layout-loop-node-preserved-then-not-is_flexible : goal.approx_stretch_layout-loop-node-preserved-then-not-is_flexible
-approx_stretch_layout-loop-node-preserved-then-not-is_flexible t c =
+pub approx_stretch_layout-loop-node-preserved-then-not-is_block : goal.approx_stretch_layout-loop-node-preserved-then-not-is_block
+approx_stretch_layout-loop-node-preserved-then-not-is_block t c =
     let I = c.loop-node.invariant in
     let g = c.loop-node-test.true in
     let e = c.field_end_in-to.ensures in
-    leaf_turn I g e c.is_flexible.ensures c.if-not-is_flexible.true
+    leaf_turn I g e c.is_block.ensures c.if-not-is_block.true
 
 pub approx_stretch_layout-approx_flex_layout-l-requires : goal.approx_stretch_layout-approx_flex_layout-l-requires
 approx_stretch_layout-approx_flex_layout-l-requires t c =
     let I = c.loop-node.invariant in
     let g = c.loop-node-test.true in
     let e = c.field_end_in-to.ensures in
-    (omega (arith, c.decreases), (I.clear, (next_value I g e, sym c.is_flexible.ensures ∙ c.if-not-is_flexible.false)))
+    (omega (arith, c.decreases), (I.clear, (next_value I g e, sym c.is_block.ensures ∙ c.if-not-is_block.false)))
 
 pub approx_stretch_layout-returns-then-l-eq-BAD : goal.approx_stretch_layout-returns-then-l-eq-BAD
 approx_stretch_layout-returns-then-l-eq-BAD t c =

@@ -1,11 +1,6 @@
 -- `laying::leaves::empty_leaf` meets its contract: it has no value.
-use Rattle.rules.proofs.Basics.{arith}
 use Rattle.laying.proofs.LeafLaws.{empty_wrong, space_told, break_told}
 use Rattle.laying.proofs.leaves.empty_leaf.Goals as goal
-
-pub overflow_add-at : goal.overflow_add-at
-overflow_add-at c =
-    let p = c.requires in let P = p.0.node.value in record { fits = omega (arith, P.rising, P.ends, P.small) }
 
 pub returns-then-at-to : goal.returns-then-at-to
 returns-then-at-to c = let p = c.requires in empty_wrong p.0 p.1.0 p.1.1.0 p.1.1.1 c.if-at-to.true

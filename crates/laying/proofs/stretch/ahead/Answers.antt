@@ -5,18 +5,15 @@ use Rattle.verify.proofs.RestLaws.{field_there, begins, rising, in_the_part, val
 use Rattle.laying.proofs.Passing.{no_field_wrong, tag_wrong, leaf_wrong}
 use Rattle.laying.proofs.StretchLaws.{along_starts, along_wrong, block_on, leaf_on, along_on, along_stops, along_ends}
 use Rattle.laying.proofs.stretch.ahead.Goals as goal
-use Rattle.laying.proofs.stretch.ahead.Goals.{else-is_flexible, then-is_flexible}
+use Rattle.laying.proofs.stretch.ahead.Goals.{else-is_block, then-is_block}
 
 pub loop-at-init : goal.loop-at-init
 loop-at-init c = along_starts c.requires.0 c.requires.1
 
-pub field_in-f-requires : goal.field_in-f-requires
-field_in-f-requires c = let P = c.loop-at.invariant.looked.part in (P.rising, P.ends)
-
 pub returns-in_default : goal.returns-in_default
 returns-in_default c =
     let I = c.loop-at.invariant in
-    along_wrong I (λ d. no_field_wrong I.looked.part d c.loop-at-test.true c.field_in-f.ensures c.in_default.not-Whole) c.wrong.ensures
+    along_wrong I (λ d. no_field_wrong I.looked.part d c.loop-at-test.true c.field_in-f.ensures c.in_default.not-Whole)
 
 pub loop-at-smaller : goal.loop-at-smaller
 loop-at-smaller c =
@@ -26,7 +23,7 @@ loop-at-smaller c =
 pub returns-then-not-in_fragment : goal.returns-then-not-in_fragment
 returns-then-not-in_fragment c =
     let I = c.loop-at.invariant in let P = I.looked.part in let A = field_there P c.field_in-f.ensures c.in-Whole.is in
-    along_wrong I (λ d. tag_wrong P d A (sym c.in_fragment.ensures ∙ c.if-not-in_fragment.true)) c.wrong-then-not-in_fragment.ensures
+    along_wrong I (λ d. tag_wrong P d A (sym c.in_fragment.ensures ∙ c.if-not-in_fragment.true))
 
 pub rigid_node-own-requires : goal.rigid_node-own-requires
 rigid_node-own-requires c =
@@ -36,21 +33,21 @@ rigid_node-own-requires c =
 pub returns-then-own-eq-BAD : goal.returns-then-own-eq-BAD
 returns-then-own-eq-BAD c =
     let I = c.loop-at.invariant in let P = I.looked.part in let A = field_there P c.field_in-f.ensures c.in-Whole.is in
-    along_wrong I (λ d. leaf_wrong P A (sym c.in_fragment.ensures ∙ c.if-not-in_fragment.false) c.rigid_node-own.ensures c.if-own-eq-BAD.true d) c.wrong-then-own-eq-BAD.ensures
+    along_wrong I (λ d. leaf_wrong P A (sym c.in_fragment.ensures ∙ c.if-not-in_fragment.false) c.rigid_node-own.ensures c.if-own-eq-BAD.true d)
 
-pub returns-then-is_block : goal.returns-then-is_block
-returns-then-is_block c =
+pub returns-then-is_block-2 : goal.returns-then-is_block-2
+returns-then-is_block-2 c =
     let I = c.loop-at.invariant in let P = I.looked.part in
     let A = field_there P c.field_in-f.ensures c.in-Whole.is in let R = sym c.in_fragment.ensures ∙ c.if-not-in_fragment.false in let N = c.rigid_node-own.ensures in let o = c.if-own-eq-BAD.false in
-    along_stops I A R N o (elim c.if-is_flexible.branch [ then-is_flexible h ↦ block_on I A R N o c.is_flexible.ensures h.if-is_flexible.true (h.start-is ∙ h.first_of-start.ensures) h.bound-is | else-is_flexible h ↦ leaf_on I A R N o c.is_flexible.ensures h.if-is_flexible.false h.start-is h.bound-is ])
-    (lines _ c.is_block.ensures c.first.ensures refl c.if-is_block.true) c.inline.ensures c.append.ensures
+    along_stops I A R N o (elim c.if-is_block.branch [ then-is_block h ↦ block_on I A R N o c.is_block.ensures h.if-is_block.true (h.start-is ∙ h.first_of-start.ensures) h.bound-is | else-is_block h ↦ leaf_on I A R N o c.is_block.ensures h.if-is_block.false h.start-is h.bound-is ])
+    (lines _ c.is_block-in-loop-at.ensures c.first.ensures refl c.if-is_block-2.true) c.inline.ensures c.append.ensures
 
 pub loop-at-preserved : goal.loop-at-preserved
 loop-at-preserved c =
     let I = c.loop-at.invariant in let P = I.looked.part in
     let A = field_there P c.field_in-f.ensures c.in-Whole.is in let R = sym c.in_fragment.ensures ∙ c.if-not-in_fragment.false in let N = c.rigid_node-own.ensures in let o = c.if-own-eq-BAD.false in
-    along_on I A R N o (elim c.if-is_flexible.branch [ then-is_flexible h ↦ block_on I A R N o c.is_flexible.ensures h.if-is_flexible.true (h.start-is ∙ h.first_of-start.ensures) h.bound-is | else-is_flexible h ↦ leaf_on I A R N o c.is_flexible.ensures h.if-is_flexible.false h.start-is h.bound-is ])
-    (line _ c.is_block.ensures refl refl c.if-is_block.false) c.append-layout.ensures
+    along_on I A R N o (elim c.if-is_block.branch [ then-is_block h ↦ block_on I A R N o c.is_block.ensures h.if-is_block.true (h.start-is ∙ h.first_of-start.ensures) h.bound-is | else-is_block h ↦ leaf_on I A R N o c.is_block.ensures h.if-is_block.false h.start-is h.bound-is ])
+    (line _ c.is_block-in-loop-at.ensures refl refl c.if-is_block-2.false) c.append-layout.ensures
 
 pub returns : goal.returns
 returns c = along_ends c.loop-at.invariant (search rules) c.loop-at-test.false c.inline-2.ensures

@@ -4,13 +4,6 @@ use Rattle.verify.proofs.Verdicts.{every_byte}
 use Rattle.laying.proofs.WholeLaws.{first_walk}
 use Rattle.laying.proofs.whole.first_walk.Goals as goal
 
-pub tenths-w-requires : goal.tenths-w-requires
-tenths-w-requires c = c.requires.1.0
-
-pub approx_layout-requires : goal.approx_layout-requires
-approx_layout-requires c =
-    (c.requires.1.1, record { behind = omega arith; rising = omega arith; ends = omega arith; small = omega (arith, c.requires.0) })
-
 pub returns : goal.returns
 returns c =
     first_walk _ _ c.requires.0 c.requires.1.0 (every_byte c.args.file.now (λ i. omega (arith, c.type_inv.file i))) c.requires.1.1 c.tenths-w.ensures c.approx_layout.ensures

@@ -19,15 +19,6 @@ pub first_walk-requires : goal.first_walk-requires
 first_walk-requires c =
     (c.if-file-gt-MOST_BYTES.false, (c.if-width-gt-MOST_COLUMNS.false, no_marks _ c.if-file-gt-MOST_BYTES.false))
 
-pub returns-then-first_walk-eq-BAD : goal.returns-then-first_walk-eq-BAD
-returns-then-first_walk-eq-BAD c = c.first_walk.ensures.wrong c.if-first_walk-eq-BAD.true _ c.check.ensures
-
-pub show_all-requires : goal.show_all-requires
-show_all-requires c = (c.if-file-gt-MOST_BYTES.false, c.first_walk.ensures.words)
-
-pub shape_of-file : goal.shape_of-file
-shape_of-file c = c.show_all.auto.s
-
 pub returns : goal.returns
 returns c =
     unfold said in let S = c.show_all.ensures in shown_outcome S (c.first_walk.ensures.laid c.if-first_walk-eq-BAD.false _ S.bytes)

@@ -8,8 +8,8 @@ use Rattle.markup.proofs.anchors.put_id.Goals as goal
 pub returns-then-is_def : goal.returns-then-is_def
 unfolding ascii
 returns-then-is_def c =
-    one_text (id_text _ _ (search rules)) (c.put_bytes-next.ensures ▸ c.put_bytes-next-then-is_def.ensures ▸ c.put.ensures ▸ done)
+    one_text (id_text _ _ (search rules)) (c.put_bytes.ensures ▸ c.put_bytes-then-is_def.ensures ▸ c.put.ensures ▸ done)
 
-pub returns : goal.returns
+pub returns-else-is_def : goal.returns-else-is_def
 unfolding ascii
-returns c = no_row (no_id _ _ (search rules))
+returns-else-is_def c = no_row (no_id _ _ (search rules))

@@ -7,4 +7,4 @@ use Rattle.markup.proofs.anchors.put_open_anchor.Goals as goal
 pub returns : goal.returns
 unfolding ascii
 returns c =
-    one_text (anchor_text _ _) (c.put_bytes-next.ensures ▸ c.put_id-next.ensures ▸ c.put_bytes-next-2.ensures ▸ c.put_bytes-next-3.ensures ▸ c.put_bytes.ensures ▸ done)
+    one_text (anchor_text _ _) (c.put_bytes.ensures ▸ c.put_id.ensures ▸ c.put_bytes-2.ensures ▸ c.put_bytes-3.ensures ▸ c.put_bytes-4.ensures ▸ done)

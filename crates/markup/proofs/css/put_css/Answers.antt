@@ -8,4 +8,4 @@ use Rattle.markup.proofs.css.put_css.Goals as goal
 pub returns : goal.returns
 unfolding css said_styles
 returns c =
-    one_text refl (c.put_colour-next.ensures ▸ c.put_weight-next.ensures ▸ c.put_size-next.ensures ▸ c.put_underline.ensures ▸ done)
+    one_text refl (c.put_colour.ensures ▸ c.put_weight.ensures ▸ c.put_size.ensures ▸ c.put_underline.ensures ▸ done)

@@ -7,4 +7,4 @@ use Rattle.markup.proofs.css.put_hex_colour.Goals as goal
 
 pub returns : goal.returns
 unfolding ascii colour_css
-returns c = one_text refl (c.put_bytes-next.ensures ▸ c.put_hex-next.ensures ▸ c.put.ensures ▸ done)
+returns c = one_text refl (c.put_bytes.ensures ▸ c.put_hex.ensures ▸ c.put.ensures ▸ done)

@@ -9,4 +9,4 @@ put_decimal-requires c = opacity_places _ _ c.shortest.ensures c.requires
 
 pub returns : goal.returns
 unfolding opacity_text
-returns c = record { next = cc; page_is = cc }
+returns c = rw c.shortest.ensures at c.put_decimal.ensures

@@ -8,4 +8,4 @@ use Rattle.markup.proofs.css.put_rgba.Goals as goal
 pub returns : goal.returns
 unfolding ascii colour_css
 returns c =
-    one_text refl (c.put_bytes-next.ensures ▸ c.put_rgb-next.ensures ▸ c.put-next.ensures ▸ c.put_opacity-next.ensures ▸ c.put_bytes.ensures ▸ done)
+    one_text refl (c.put_bytes.ensures ▸ c.put_rgb.ensures ▸ c.put.ensures ▸ c.put_opacity.ensures ▸ c.put_bytes-2.ensures ▸ done)

@@ -9,6 +9,6 @@ pub returns-then-has_effective : goal.returns-then-has_effective
 unfolding ascii
 returns-then-has_effective c = one_row (script_text _ c.if-st.false c.has_effective.ensures c.if-has_effective.true) (search rules)
 
-pub returns : goal.returns
+pub returns-else-has_effective : goal.returns-else-has_effective
 unfolding ascii
-returns c = no_row (no_size _ _ (cc))
+returns-else-has_effective c = no_row (no_size _ _ (cc))

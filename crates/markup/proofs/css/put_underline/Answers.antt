@@ -9,6 +9,6 @@ pub returns-then-underline : goal.returns-then-underline
 unfolding ascii
 returns-then-underline c = one_row (underline_text _ c.if-underline.true) (search rules)
 
-pub returns : goal.returns
+pub returns-else-underline : goal.returns-else-underline
 unfolding ascii
-returns c = no_row (no_underline _ c.if-underline.false)
+returns-else-underline c = no_row (no_underline _ c.if-underline.false)

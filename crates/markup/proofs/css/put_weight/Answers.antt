@@ -5,11 +5,11 @@ use Rattle.markup.proofs.WeightLaws.{no_weight, weight_text}
 use Rattle.markup.proofs.Joins.{done, ◌▸◌, one_text, no_row}
 use Rattle.markup.proofs.css.put_weight.Goals as goal
 
-pub returns : goal.returns
+pub returns-else-st : goal.returns-else-st
 unfolding ascii
-returns c = no_row (no_weight _ (search rules))
+returns-else-st c = no_row (no_weight _ (search rules))
 
 pub returns-then-st : goal.returns-then-st
 unfolding ascii
 returns-then-st c =
-    one_text (weight_text _ (search rules) (search rules) (sfits_of c.weight.type_inv) c.weight.ensures) (c.put_bytes-next.ensures ▸ c.put_signed-next.ensures ▸ c.put.ensures ▸ done)
+    one_text (weight_text _ (search rules) (search rules) (sfits_of c.weight.type_inv) c.weight.ensures) (c.put_bytes.ensures ▸ c.put_signed.ensures ▸ c.put.ensures ▸ done)

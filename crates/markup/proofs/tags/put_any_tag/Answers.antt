@@ -8,4 +8,4 @@ use Rattle.markup.proofs.tags.put_any_tag.Goals as goal
 
 pub returns : goal.returns
 returns c =
-    unfold ascii open_tag said_styles in one_text refl ((c.put-next.ensures) ▸ (c.put_name-next.ensures) ▸ (c.put_style-next.ensures) ▸ (c.put_class-next.ensures) ▸ (c.put.ensures) ▸ done)
+    unfold ascii open_tag said_styles in one_text refl (c.put.ensures ▸ c.put_name.ensures ▸ c.put_style.ensures ▸ c.put_class.ensures ▸ c.put-2.ensures ▸ done)

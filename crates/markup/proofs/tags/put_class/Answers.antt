@@ -9,6 +9,6 @@ pub returns-then-dim : goal.returns-then-dim
 unfolding ascii
 returns-then-dim c = one_row (class_text _ c.if-dim.true) (search rules)
 
-pub returns : goal.returns
+pub returns-else-dim : goal.returns-else-dim
 unfolding ascii
-returns c = no_row (no_class _ c.if-dim.false)
+returns-else-dim c = no_row (no_class _ c.if-dim.false)

@@ -7,4 +7,4 @@ use Rattle.markup.proofs.tags.put_close_tag.Goals as goal
 
 pub returns : goal.returns
 unfolding ascii close_tag
-returns c = one_text refl (c.put_bytes-next.ensures ▸ c.put_name-next.ensures ▸ c.put.ensures ▸ done)
+returns c = one_text refl (c.put_bytes.ensures ▸ c.put_name.ensures ▸ c.put.ensures ▸ done)

@@ -7,4 +7,4 @@ use Rattle.markup.proofs.tags.put_coloured.Goals as goal
 
 pub returns : goal.returns
 unfolding ascii coloured_tag
-returns c = one_text refl (c.put_bytes-next.ensures ▸ c.put_hex-next.ensures ▸ c.put_bytes.ensures ▸ done)
+returns c = one_text refl (c.put_bytes.ensures ▸ c.put_hex.ensures ▸ c.put_bytes-2.ensures ▸ done)

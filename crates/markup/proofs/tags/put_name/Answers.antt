@@ -11,5 +11,5 @@ returns-then-st c = unfold ascii in one_row (sub_text _ (search rules)) (search 
 pub returns-then-st-2 : goal.returns-then-st-2
 returns-then-st-2 c = unfold ascii in one_row (sup_text _ (search rules) (search rules)) (search rules)
 
-pub returns : goal.returns
-returns c = unfold ascii in one_row (span_text _ (search rules) (search rules)) (search rules)
+pub returns-else-st-2 : goal.returns-else-st-2
+returns-else-st-2 c = unfold ascii in one_row (span_text _ (search rules) (search rules)) (search rules)

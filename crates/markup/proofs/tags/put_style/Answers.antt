@@ -7,8 +7,8 @@ use Rattle.markup.proofs.tags.put_style.Goals as goal
 pub returns-then-has_css : goal.returns-then-has_css
 unfolding ascii
 returns-then-has_css c =
-    one_text (style_text _ (cc)) (c.put_bytes-next.ensures ▸ c.put_css-next.ensures ▸ c.put.ensures ▸ done)
+    one_text (style_text _ (cc)) (c.put_bytes.ensures ▸ c.put_css.ensures ▸ c.put.ensures ▸ done)
 
-pub returns : goal.returns
+pub returns-else-has_css : goal.returns-else-has_css
 unfolding ascii
-returns c = no_row (no_style _ (cc))
+returns-else-has_css c = no_row (no_style _ (cc))

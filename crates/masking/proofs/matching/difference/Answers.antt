@@ -12,27 +12,27 @@ field_in-f-requires c = (omega (arith, c.loop-at.invariant.inside), omega arith)
 
 pub first_off-requires : goal.first_off-requires
 first_off-requires c =
-    (omega (arith, c.loop-at-test.true), omega (arith, c.shorter-n.ensures), omega (arith, c.shorter-n.ensures))
+    (omega (arith, c.loop-at-test.true), omega (arith, c.min-n.ensures), omega (arith, c.min-n.ensures))
 
 pub returns-in_default : goal.returns-in_default
 returns-in_default c =
-    rest_compared c.loop-at.invariant c.shorter-n.ensures c.loop-at-test.true (at_the_end _ _ c.field_in-f.ensures) c.in_default.not-Whole c.first_off.ensures
+    rest_compared c.loop-at.invariant c.min-n.ensures c.loop-at-test.true (at_the_end _ _ c.field_in-f.ensures) c.in_default.not-Whole c.first_off.ensures
 
 pub off_in_field-r-requires : goal.off_in_field-r-requires
 off_in_field-r-requires c =
-    let q = end_within c.loop-at.invariant c.shorter-n.ensures c.loop-at-test.true (at_the_end _ _ c.field_in-f.ensures) c.in-Whole.is c.next_place.ensures c.shorter-end.ensures in (omega (arith, q.0), q.1, q.2, omega (arith, c.loop-at.invariant.inside, c.requires))
+    let q = end_within c.loop-at.invariant c.min-n.ensures c.loop-at-test.true (at_the_end _ _ c.field_in-f.ensures) c.in-Whole.is c.next_place.ensures c.min-end.ensures in (omega (arith, q.0), q.1, q.2, omega (arith, c.loop-at.invariant.inside, c.requires))
 
 pub returns-then-r-end : goal.returns-then-r-end
 returns-then-r-end c =
-    differs_here c.loop-at.invariant c.shorter-n.ensures c.loop-at-test.true (at_the_end _ _ c.field_in-f.ensures) c.in-Whole.is c.next_place.ensures c.shorter-end.ensures c.is_text.ensures c.off_in_field-r.ensures c.if-r-end.true
+    differs_here c.loop-at.invariant c.min-n.ensures c.loop-at-test.true (at_the_end _ _ c.field_in-f.ensures) c.in-Whole.is c.next_place.ensures c.min-end.ensures c.is_text.ensures c.off_in_field-r.ensures c.if-r-end.true
 
 pub loop-at-smaller : goal.loop-at-smaller
 loop-at-smaller c =
-    omega (arith, (end_within c.loop-at.invariant c.shorter-n.ensures c.loop-at-test.true (at_the_end _ _ c.field_in-f.ensures) c.in-Whole.is c.next_place.ensures c.shorter-end.ensures).0, c.loop-at-test.true)
+    omega (arith, (end_within c.loop-at.invariant c.min-n.ensures c.loop-at-test.true (at_the_end _ _ c.field_in-f.ensures) c.in-Whole.is c.next_place.ensures c.min-end.ensures).0, c.loop-at-test.true)
 
 pub loop-at-preserved : goal.loop-at-preserved
 loop-at-preserved c =
-    next_ahead c.loop-at.invariant c.shorter-n.ensures c.loop-at-test.true (at_the_end _ _ c.field_in-f.ensures) c.in-Whole.is c.next_place.ensures c.shorter-end.ensures c.is_text.ensures c.off_in_field-r.ensures c.if-r-end.false
+    next_ahead c.loop-at.invariant c.min-n.ensures c.loop-at-test.true (at_the_end _ _ c.field_in-f.ensures) c.in-Whole.is c.next_place.ensures c.min-end.ensures c.is_text.ensures c.off_in_field-r.ensures c.if-r-end.false
 
 pub returns : goal.returns
-returns c = no_difference c.loop-at.invariant (omega (arith, c.shorter-n.ensures, c.loop-at-test.false))
+returns c = no_difference c.loop-at.invariant (omega (arith, c.min-n.ensures, c.loop-at-test.false))

@@ -1,15 +1,17 @@
 -- `pages::frame::put_foot` meets its contract: the constants are the rules' texts, by computing.
+use Rattle.rules.proofs.Basics.{rules}
 use Rattle.rules.proofs.Open.{all_open}
-use Rattle.writing.proofs.Laws.{nothing, then}
+use Rattle.writing.proofs.Laws.{put_nothing, put_then, same_page}
 use Rattle.pages.specs.Kinds.{foot}
 use Rattle.pages.proofs.frame.put_foot.Goals as goal
 
-pub returns-in-Nothing : goal.returns-in-Nothing
-returns-in-Nothing c = unfold foot in rw c.in-Nothing.is nothing
+pub returns-in_default : goal.returns-in_default
+returns-in_default c = unfold foot in record { put = rw c.in_default.is put_nothing; same_page = search rules }
 
 pub returns-in-Body : goal.returns-in-Body
-returns-in-Body c = unfold all_open foot in rw c.in-Body.is c.put_bytes.ensures
+returns-in-Body c = unfold all_open foot in record { put = rw (c.in-Some.is, c.in-Body.is) c.put_bytes.ensures; same_page = same_page c.put_bytes.ensures }
 
 pub returns-in-Document : goal.returns-in-Document
 returns-in-Document c =
-    unfold all_open foot in rw c.in-Document.is (then c.put_bytes-body.ensures c.put_bytes-in-Document.ensures)
+    let both = put_then c.put_bytes-in-Document.ensures c.put_bytes-in-Document-2.ensures in
+    unfold all_open foot in record { put = rw (c.in-Some.is, c.in-Document.is) both; same_page = same_page both }

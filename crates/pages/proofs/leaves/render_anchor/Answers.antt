@@ -2,7 +2,7 @@
 use Rattle.rules.proofs.Basics.{arith}
 use Rattle.fields.proofs.Laws.{rises, ends}
 use Rattle.pens.specs.Ran.{IsMark}
-use Rattle.pens.proofs.Running.{kept, quietly}
+use Rattle.pens.proofs.Running.{quietly}
 use Rattle.pages.proofs.LeafLaws.{no_anchor, bare_anchor, anchor_around}
 use Rattle.pages.proofs.leaves.render_anchor.Goals as goal
 
@@ -30,18 +30,15 @@ slice_bounds-interpret_mark-start c = search rises
 pub slice_bounds-interpret_mark-end : goal.slice_bounds-interpret_mark-end
 slice_bounds-interpret_mark-end c = search ends
 
-pub interpret_mark-pushed-requires : goal.interpret_mark-pushed-requires
-interpret_mark-pushed-requires c = unfold IsMark in tt
-
-pub render_runs-inside-requires : goal.render_runs-inside-requires
-render_runs-inside-requires c = omega (arith, (quietly c.interpret_mark-pushed.ensures tt).indent_kept, c.requires)
-
 pub interpret_mark-requires : goal.interpret_mark-requires
 interpret_mark-requires c = unfold IsMark in tt
 
+pub render_runs-requires : goal.render_runs-requires
+render_runs-requires c = omega (arith, (quietly c.interpret_mark.ensures tt).indent_kept, c.requires)
+
+pub interpret_mark-requires-2 : goal.interpret_mark-requires-2
+interpret_mark-requires-2 c = unfold IsMark in tt
+
 pub returns : goal.returns
 returns c =
-    anchor_around _ c.field_at.ensures c.in-Whole.is c.if-v-to.false c.interpret_mark-pushed.ensures c.render_runs-inside.ensures c.interpret_mark.ensures
-
-pub shape_of-page : goal.shape_of-page
-shape_of-page c = kept (returns c)
+    anchor_around _ c.field_at.ensures c.in-Whole.is c.if-v-to.false c.interpret_mark.ensures c.render_runs.ensures c.interpret_mark-2.ensures

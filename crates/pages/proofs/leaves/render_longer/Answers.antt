@@ -1,6 +1,5 @@
 -- `pages::leaves::render_longer` meets its contract: one line at once, or as any text.
 use Rattle.rules.proofs.Basics.{arith}
-use Rattle.pens.proofs.Running.{kept}
 use Rattle.pages.proofs.ShortTexts.{longer_text}
 use Rattle.pages.proofs.leaves.render_longer.Goals as goal
 
@@ -22,6 +21,3 @@ plain_part-requires c = (c.requires.3, (c.one_long_line.ensures c.if-one_long_li
 pub returns-then-one_long_line : goal.returns-then-one_long_line
 returns-then-one_long_line c =
     longer_text c.requires.1 c.requires.2 c.requires.4 (c.one_long_line.ensures c.if-one_long_line.true) c.requires.3 c.plain_part.ensures
-
-pub shape_of-page-then-one_long_line : goal.shape_of-page-then-one_long_line
-shape_of-page-then-one_long_line c = kept (returns-then-one_long_line c)

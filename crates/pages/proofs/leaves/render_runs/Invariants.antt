@@ -5,7 +5,7 @@ use Rattle.pages.proofs.Going.{Going}
 use Rattle.pages.proofs.leaves.render_runs.Given as goal
 
 abbrev pub invariant-loop-at : goal.invariant-loop-at
-invariant-loop-at l = Going (λ (at : ℕ). run_field_in) 0 l.initial.at l.v l.initial.p l.initial.page l.at l.p l.page
+invariant-loop-at l = Going (λ (at : ℕ). run_field_in) 0 l.initial.at l.v l.fn.pen l.at l.pen
 
 abbrev pub decreases-loop-at : goal.decreases-loop-at
 decreases-loop-at l = length l.v - l.at

@@ -1,7 +1,7 @@
 -- `pages::leaves::render_text` meets its contract: a 17, or a 17 between the push and the pop of its 16.
 use Rattle.rules.proofs.Basics.{arith, rules}
 use Rattle.pens.specs.Ran.{IsMark}
-use Rattle.pens.proofs.Running.{kept, quietly}
+use Rattle.pens.proofs.Running.{quietly}
 use Rattle.pages.proofs.LeafLaws.{no_text, plain_text, cut_text, styled_text}
 use Rattle.fields.proofs.Laws.{rises, ends}
 use Rattle.pages.proofs.leaves.render_text.Goals as goal
@@ -21,9 +21,6 @@ slice_bounds-render_bytes-end c = search ends
 pub returns-then-tag-ne16 : goal.returns-then-tag-ne16
 returns-then-tag-ne16 c = search plain_text
 
-pub shape_of-page-then-tag-ne16 : goal.shape_of-page-then-tag-ne16
-shape_of-page-then-tag-ne16 c = kept (returns-then-tag-ne16 c)
-
 pub slice_bounds-interpret_mark-count : goal.slice_bounds-interpret_mark-count
 slice_bounds-interpret_mark-count c = search rises
 
@@ -42,8 +39,8 @@ slice_bounds-render_bytes-start-2 c = search rises
 pub slice_bounds-render_bytes-end-2 : goal.slice_bounds-render_bytes-end-2
 slice_bounds-render_bytes-end-2 c = search ends
 
-pub render_bytes-inside-requires : goal.render_bytes-inside-requires
-render_bytes-inside-requires c = omega (arith, (quietly c.interpret_mark-pushed.ensures tt).indent_kept, c.requires)
+pub render_bytes-requires-2 : goal.render_bytes-requires-2
+render_bytes-requires-2 c = omega (arith, (quietly c.interpret_mark.ensures tt).indent_kept, c.requires)
 
 pub slice_bounds-interpret_mark-count-2 : goal.slice_bounds-interpret_mark-count-2
 slice_bounds-interpret_mark-count-2 c = search rises
@@ -56,18 +53,15 @@ slice_bounds-interpret_mark-end-2 c = search ends
 
 pub returns : goal.returns
 returns c =
-    styled_text _ (search rules) c.in-Whole.is (search rules) c.field_at-2.ensures c.in-Whole-field_at.is c.interpret_mark-pushed.ensures c.render_bytes-inside.ensures c.interpret_mark.ensures
-
-pub shape_of-page : goal.shape_of-page
-shape_of-page c = kept (returns c)
+    styled_text _ (search rules) c.in-Whole.is (search rules) c.field_at-2.ensures c.in-Whole-field_at.is c.interpret_mark.ensures c.render_bytes-2.ensures c.interpret_mark-2.ensures
 
 pub returns-in_default-field_at : goal.returns-in_default-field_at
 returns-in_default-field_at c = cut_text _ (search rules) c.in-Whole.is (search rules) c.field_at-2.ensures c.in_default-field_at.not-Whole
 
-pub interpret_mark-pushed-requires : goal.interpret_mark-pushed-requires
-unfolding IsMark
-interpret_mark-pushed-requires c = tt
-
 pub interpret_mark-requires : goal.interpret_mark-requires
 unfolding IsMark
 interpret_mark-requires c = tt
+
+pub interpret_mark-requires-2 : goal.interpret_mark-requires-2
+unfolding IsMark
+interpret_mark-requires-2 c = tt

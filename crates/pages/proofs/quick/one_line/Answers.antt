@@ -1,17 +1,6 @@
--- `pages::quick::one_line` meets its contract: a window around the text without a newline.
-use Rattle.rules.proofs.Basics.{false≢true, arith}
-use Rattle.pages.proofs.ShortTexts.{a_line, window_around}
+-- `pages::quick::one_line` meets its contract: the bytes are some, and lack a newline.
+use Rattle.pages.proofs.ShortTexts.{a_line}
 use Rattle.pages.proofs.quick.one_line.Goals as goal
 
-pub returns-then-to-from : goal.returns-then-to-from
-returns-then-to-from c e = absurd (false≢true e)
-
-pub returns-then-to-from-gt8 : goal.returns-then-to-from-gt8
-returns-then-to-from-gt8 c e = absurd (false≢true e)
-
-pub returns-then-to-lt8 : goal.returns-then-to-lt8
-returns-then-to-lt8 c e = absurd (false≢true e)
-
-pub returns : goal.returns
-returns c e =
-    a_line _ _ _ (omega arith) (omega arith) (window_around (omega arith) (omega arith) (c.no_newline.ensures e))
+pub returns-then-from-to : goal.returns-then-from-to
+returns-then-from-to c e = a_line _ _ _ c.requires c.if-from-to.true (c.lacks.ensures.says e)

@@ -1,7 +1,8 @@
 -- `pages::walk::render_node`, `render_flexible`, `render_indented`, `render_fragments`, `render_inner` and `render_fragment` meet their contracts: the blocks that are left fall; each loop's invariant is `Going`.
 use Rattle.rules.proofs.Basics.{refl, arith}
 use Rattle.fields.proofs.Spans.{end_rises, end_within, end_less}
-use Rattle.pens.specs.States.{break_numbered}
+use Rattle.lines.specs.Said.{break_of}
+use Rattle.writing.proofs.Laws.{same_page}
 use Rattle.pens.specs.Ran.{indent_of}
 use Rattle.pens.proofs.Running.{nothing, and_then}
 use Rattle.pens.proofs.Breaks.{break_level, indent_level}
@@ -23,8 +24,8 @@ render_flexible-returns t c = a_four _ _ _ _ c.is_marked.ensures c.if-is_marked.
 pub render_fragment-loop-at-init : goal.render_fragment-loop-at-init
 render_fragment-loop-at-init t c = going_starts
 
-pub render_fragment-render_node-p-requires : goal.render_fragment-render_node-p-requires
-render_fragment-render_node-p-requires t c =
+pub render_fragment-render_node-requires : goal.render_fragment-render_node-requires
+render_fragment-render_node-requires t c =
     let e = c.field_end-to.ensures in let l = c.loop-at-test.true in
     (omega (arith, c.decreases), (omega (arith, c.loop-at.invariant.rendered.indent_kept, c.requires.0), end_rises e l, end_within e l, c.requires.1))
 
@@ -32,11 +33,11 @@ pub render_fragment-loop-at-smaller : goal.render_fragment-loop-at-smaller
 render_fragment-loop-at-smaller t c = search end_less
 
 pub render_fragment-loop-at-preserved : goal.render_fragment-loop-at-preserved
-render_fragment-loop-at-preserved t c = going_more c.loop-at.invariant c.loop-at-test.true c.field_end-to.ensures c.render_node-p.ensures
+render_fragment-loop-at-preserved t c = going_more c.loop-at.invariant c.loop-at-test.true c.field_end-to.ensures c.render_node.ensures
 
 pub render_fragment-returns : goal.render_fragment-returns
 unfolding fragment_in
-render_fragment-returns t c = going_ends c.loop-at.invariant c.loop-at-test.false
+render_fragment-returns t c = let r = going_ends c.loop-at.invariant c.loop-at-test.false in record { rendered = r; same_page = same_page r.ran.put }
 
 pub render_fragments-loop-at-init : goal.render_fragments-loop-at-init
 render_fragments-loop-at-init t c = going_starts
@@ -50,7 +51,7 @@ render_fragments-loop-at-smaller t c = search end_less
 pub render_fragments-loop-at-preserved : goal.render_fragments-loop-at-preserved
 unfolding fragment_in fragment_ops
 render_fragments-loop-at-preserved t c =
-    going_more c.loop-at.invariant c.loop-at-test.true c.field_end-to.ensures (and_then c.render_inner-p.ensures (c.end_fragment-p.ensures _))
+    going_more c.loop-at.invariant c.loop-at-test.true c.field_end-to.ensures (and_then c.render_inner.ensures c.end_fragment.ensures)
 
 pub render_fragments-returns : goal.render_fragments-returns
 unfolding fragments_by fragment_ops
@@ -64,19 +65,19 @@ pub render_indented-deeper-requires : goal.render_indented-deeper-requires
 unfolding indent_of
 render_indented-deeper-requires t c = omega (arith, c.requires.0)
 
-pub render_indented-render_fragments-inside-requires : goal.render_indented-render_fragments-inside-requires
+pub render_indented-render_fragments-requires : goal.render_indented-render_fragments-requires
 unfolding indent_of
-render_indented-render_fragments-inside-requires t c =
-    (omega (arith, c.decreases), (omega (arith, break_level c.broken.ensures, indent_level c.deeper.ensures, c.requires.0), c.requires.1))
+render_indented-render_fragments-requires t c =
+    (omega (arith, c.decreases), (omega (arith, break_level c.broken-pen.ensures, indent_level c.deeper.ensures, c.requires.0), c.requires.1))
 
-pub render_indented-less_deep-requires : goal.render_indented-less_deep-requires
+pub render_indented-less_deep-pen-requires : goal.render_indented-less_deep-pen-requires
 unfolding indent_of
-render_indented-less_deep-requires t c =
-    omega (arith, c.render_fragments-inside.ensures.indent_kept, break_level c.broken.ensures, indent_level c.deeper.ensures)
+render_indented-less_deep-pen-requires t c =
+    omega (arith, c.render_fragments.ensures.indent_kept, break_level c.broken-pen.ensures, indent_level c.deeper.ensures)
 
 pub render_indented-returns : goal.render_indented-returns
-unfolding break_numbered
-render_indented-returns t c = a_three _ _ _ _ c.if-left-eq0.false c.deeper.ensures c.broken.ensures c.render_fragments-inside.ensures c.less_deep.ensures
+unfolding break_of
+render_indented-returns t c = a_three _ _ _ _ c.if-left-eq0.false c.deeper.ensures c.broken-pen.ensures c.render_fragments.ensures c.less_deep-pen.ensures
 
 pub render_inner-returns-then-s-le3 : goal.render_inner-returns-then-s-le3
 render_inner-returns-then-s-le3 t c = no_nodes _ _ _ _ _ c.if-s-le3.true
@@ -92,3 +93,6 @@ render_node-returns-then-tag-eq4 t c = node_four _ _ _ _ _ _ _ c.requires.2 c.if
 
 pub render_node-returns : goal.render_node-returns
 render_node-returns t c = node_leaf _ _ _ _ _ _ _ c.requires.2 c.if-to-at-lt3.false refl c.if-tag-eq3.false c.if-tag-eq4.false c.render_leaf.ensures
+
+pub render_inner-returns : goal.render_inner-returns
+render_inner-returns t c = c.render_fragment.ensures.rendered

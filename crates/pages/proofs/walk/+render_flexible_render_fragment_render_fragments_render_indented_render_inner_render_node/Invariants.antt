@@ -25,13 +25,13 @@ abbrev pub decreases-render_node : goal.decreases-render_node
 decreases-render_node l = 6 * l.left + 2
 
 abbrev pub invariant-render_fragment-loop-at : goal.invariant-render_fragment-loop-at
-invariant-render_fragment-loop-at l = Going (node_in (marked l.marks) l.left l.directly_in_block) l.base l.initial.at l.s l.initial.p l.initial.page l.at l.p l.page
+invariant-render_fragment-loop-at l = Going (node_in (marked l.marks) l.left l.directly_in_block) l.base l.initial.at l.s l.fn.pen l.at l.pen
 
 abbrev pub decreases-render_fragment-loop-at : goal.decreases-render_fragment-loop-at
 decreases-render_fragment-loop-at l = length l.s - l.at
 
 abbrev pub invariant-render_fragments-loop-at : goal.invariant-render_fragments-loop-at
-invariant-render_fragments-loop-at l = Going (fragment_ops l.marks l.left l.directly_in_block) l.base 3 l.s l.initial.p l.initial.page l.at l.p l.page
+invariant-render_fragments-loop-at l = Going (fragment_ops l.marks l.left l.directly_in_block) l.base 3 l.s l.fn.pen l.at l.pen
 
 abbrev pub decreases-render_fragments-loop-at : goal.decreases-render_fragments-loop-at
 decreases-render_fragments-loop-at l = length l.s - l.at

@@ -1,28 +1,20 @@
 -- `pens::bytes::render_lines` meets its contract: a loop over the lines, whose invariant is `LinesDone`.
-use Rattle.rules.proofs.Basics.{arith}
-use Rattle.pens.proofs.Running.{kept}
 use Rattle.pens.proofs.NewLines.{fresh}
-use Rattle.pens.proofs.TextLines.{next_within, lines_start, lines_more, lines_end}
+use Rattle.pens.proofs.TextLines.{first_ends, lines_start, lines_more, lines_end}
 use Rattle.pens.proofs.bytes.render_lines.Goals as goal
 
-pub loop-at-init : goal.loop-at-init
-loop-at-init c = lines_start
+pub loop-text-init : goal.loop-text-init
+loop-text-init c = lines_start
 
-pub overflow_add-to : goal.overflow_add-to
-overflow_add-to c =
-    let h = next_within c.loop-at.invariant c.loop-at-test.true c.first_line_end.ensures in record { fits = omega (arith, h) }
+pub split_at-requires : goal.split_at-requires
+split_at-requires c = first_ends _ c.first_line_end.ensures
 
-pub slice_bounds-line_part-end : goal.slice_bounds-line_part-end
-slice_bounds-line_part-end c = search next_within
+pub line_part-requires : goal.line_part-requires
+line_part-requires c = fresh c.begin_line.ensures
 
-pub line_part-p-requires : goal.line_part-p-requires
-line_part-p-requires c = fresh c.begin_line-p.ensures
-
-pub loop-at-preserved : goal.loop-at-preserved
-loop-at-preserved c = search lines_more
+pub loop-text-preserved : goal.loop-text-preserved
+loop-text-preserved c =
+    lines_more c.loop-text.invariant c.in-Some.ensures.cases.0 c.first_line_end.ensures c.split_at.ensures.front c.split_at.ensures.back c.begin_line.ensures c.line_part.ensures
 
 pub returns : goal.returns
-returns c = lines_end c.loop-at.invariant c.loop-at-test.false
-
-pub shape_of-page : goal.shape_of-page
-shape_of-page c = kept (returns c)
+returns c = lines_end c.loop-text.invariant c.in_default.ensures.cases

@@ -3,4 +3,4 @@ use Rattle.pens.proofs.NewLines.{line_begun}
 use Rattle.pens.proofs.pen.begin_line.Goals as goal
 
 pub returns : goal.returns
-returns c = line_begun c.put-at.ensures c.on_line.ensures
+returns c = line_begun c.put.ensures c.on_line-pen.ensures

@@ -4,4 +4,4 @@ use Rattle.pens.proofs.pen.begin_part.Goals as goal
 
 pub returns : goal.returns
 returns c =
-    part_ready _ c.put_ready-from.ensures c.form_in.ensures c.requires c.put_part-at.ensures c.on_line.ensures
+    part_ready _ c.put_ready.ensures c.form_in.ensures c.requires c.put_part.ensures c.on_line-pen.ensures

@@ -6,9 +6,9 @@ use Rattle.pens.proofs.pen.interpret.Goals as goal
 pub step-s-requires : goal.step-s-requires
 step-s-requires c = indent_fits _ _ c.requires c.machine_in.ensures
 
-pub state_of-requires : goal.state_of-requires
-state_of-requires c = step_fits _ _ _ _ _ c.requires c.machine_in.ensures c.step-s.ensures
+pub state_of-pen-requires : goal.state_of-pen-requires
+state_of-pen-requires c = step_fits _ _ _ _ _ c.requires c.machine_in.ensures c.step-s.ensures
 
 pub returns : goal.returns
 returns c =
-    one_operation _ _ _ _ _ c.machine_in.ensures.0 c.form_in-form.ensures c.step-s.ensures c.put_before-from.ensures c.put_own-at.ensures c.state_of.ensures.0 c.state_of.ensures.1
+    one_operation _ _ _ _ _ c.machine_in.ensures.0 c.form_in-form.ensures c.step-s.ensures c.put_before.ensures c.put_own.ensures c.state_of-pen.ensures.0 c.state_of-pen.ensures.1

@@ -8,12 +8,12 @@ use Rattle.pens.proofs.pen.interpret_mark.Goals as goal
 pub returns-then-nothing_shows : goal.returns-then-nothing_shows
 returns-then-nothing_shows c = quiet_mark _ _ c.requires (sym c.nothing_shows.ensures ∙ c.if-nothing_shows.true)
 
-pub put_mark-at-requires : goal.put_mark-at-requires
-put_mark-at-requires c = mark_no_text _ c.requires
+pub put_mark-requires : goal.put_mark-requires
+put_mark-requires c = mark_no_text _ c.requires
 
-pub on_line-requires : goal.on_line-requires
-on_line-requires c = c.line_ready.ensures.1
+pub on_line-pen-requires : goal.on_line-pen-requires
+on_line-pen-requires c = c.line_ready.ensures.1
 
 pub returns : goal.returns
 returns c =
-    mark_ready _ c.put_ready-from.ensures c.form_in.ensures _ c.requires c.put_mark-at.ensures c.line_ready.ensures c.on_line.ensures
+    mark_ready _ c.put_ready.ensures c.form_in.ensures _ c.requires c.put_mark.ensures c.line_ready.ensures c.on_line-pen.ensures

@@ -1,12 +1,12 @@
 -- `pens::pen::line_part` meets its contract: it has no bytes, or the indent and they.
-use Rattle.rules.proofs.Basics.{arith}
+use Rattle.rules.proofs.Basics.{rules, arith}
 use Rattle.pens.proofs.BeforeItems.{no_part}
 use Rattle.pens.proofs.NewLines.{fresh_part}
 use Rattle.pens.proofs.pen.line_part.Goals as goal
 
-pub returns-then-text-eq0 : goal.returns-then-text-eq0
-returns-then-text-eq0 c = no_part _ c.if-text-eq0.true
+pub returns-then-is_empty : goal.returns-then-is_empty
+returns-then-is_empty c = no_part _ (search rules)
 
 pub returns : goal.returns
 returns c =
-    fresh_part _ c.requires c.put_spaces-from.ensures c.form_in.ensures (omega arith) c.put_part-at.ensures c.on_line.ensures
+    fresh_part _ c.requires c.put_spaces.ensures c.form_in.ensures (search (rules, arith)) c.put_part.ensures c.on_line-pen.ensures

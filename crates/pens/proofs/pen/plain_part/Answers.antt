@@ -4,4 +4,4 @@ use Rattle.pens.proofs.pen.plain_part.Goals as goal
 
 pub returns : goal.returns
 returns c =
-    plain_ready _ c.put_ready_if_any-from.ensures c.requires.0 c.requires.1 c.put_bytes-at.ensures c.on_line.ensures
+    plain_ready _ c.put_ready_if_any.ensures c.requires.0 c.requires.1 c.put_bytes.ensures c.on_line-pen.ensures

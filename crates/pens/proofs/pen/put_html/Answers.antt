@@ -2,7 +2,7 @@
 use Rattle.rules.proofs.Basics.{sym, subst}
 use Rattle.styles.specs.Said.{Writable}
 use Rattle.styles.proofs.StylesWritable.{styles_writable}
-use Rattle.writing.proofs.Laws.{nothing}
+use Rattle.writing.proofs.Laws.{put_nothing}
 use Rattle.rules.specs.Plain.{fill}
 use Rattle.rules.specs.Html.{mark_html, items_html}
 use Rattle.lines.specs.Said.{own}
@@ -15,10 +15,10 @@ pub put_open_tag-requires : goal.put_open_tag-requires
 put_open_tag-requires c = subst Writable (sym c.read_styles.ensures) (styles_writable _)
 
 pub returns-in-PushIndent : goal.returns-in-PushIndent
-returns-in-PushIndent c = unfold own shown items_html fill in rw c.in-PushIndent.is nothing
+returns-in-PushIndent c = unfold own shown items_html fill in rw c.in-PushIndent.is put_nothing
 
 pub returns-in-PopIndent : goal.returns-in-PopIndent
-returns-in-PopIndent c = unfold own shown items_html fill in rw c.in-PopIndent.is nothing
+returns-in-PopIndent c = unfold own shown items_html fill in rw c.in-PopIndent.is put_nothing
 
 pub returns-in-PushStyles : goal.returns-in-PushStyles
 returns-in-PushStyles c =
@@ -41,7 +41,7 @@ pub returns-in-AppendToLine : goal.returns-in-AppendToLine
 returns-in-AppendToLine c = absurd (c.requires c.in-AppendToLine.is)
 
 pub returns-in-StartNewLine : goal.returns-in-StartNewLine
-returns-in-StartNewLine c = unfold own shown items_html fill in rw c.in-StartNewLine.is nothing
+returns-in-StartNewLine c = unfold own shown items_html fill in rw c.in-StartNewLine.is put_nothing
 
 pub returns-in-BreakIfWithinLine : goal.returns-in-BreakIfWithinLine
-returns-in-BreakIfWithinLine c = unfold own shown items_html fill in rw c.in-BreakIfWithinLine.is nothing
+returns-in-BreakIfWithinLine c = unfold own shown items_html fill in rw c.in-BreakIfWithinLine.is put_nothing

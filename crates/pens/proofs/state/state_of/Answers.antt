@@ -1,4 +1,4 @@
--- `pens::state::state_of` meets its contract: each part comes out as it was put in.
+-- `pens::state::state_of` meets its contract: its four parts, each on its place.
 use Rattle.rules.proofs.Basics.{refl}
 use Rattle.pens.proofs.StateLaws.{state_said}
 use Rattle.pens.proofs.state.state_of.Goals as goal

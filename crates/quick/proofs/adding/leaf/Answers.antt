@@ -6,13 +6,10 @@ use Rattle.quick.specs.Quick.{not_here}
 use Rattle.quick.proofs.adding.leaf.Goals as goal
 
 pub returns-then-not-allowed : goal.returns-then-not-allowed
-returns-then-not-allowed c = λ x st t e f. not_here c.nowhere.ensures refl
+returns-then-not-allowed c = λ x st t e f. not_here refl refl
 
 pub has_room-requires : goal.has_room-requires
 has_room-requires c = ((is_sane c.requires).in_file, omega arith)
-
-pub returns-then-not-has_room : goal.returns-then-not-has_room
-returns-then-not-has_room c = λ x st t e f. not_here c.nowhere-then-not-has_room.ensures refl
 
 pub put_field-next-requires : goal.put_field-next-requires
 put_field-next-requires c = omega (arith, (c.has_room.ensures c.if-not-has_room.false).0)

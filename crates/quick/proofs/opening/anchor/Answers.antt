@@ -6,16 +6,10 @@ use Rattle.quick.specs.Quick.{not_here}
 use Rattle.quick.proofs.opening.anchor.Goals as goal
 
 pub returns-then-not-allowed : goal.returns-then-not-allowed
-returns-then-not-allowed c = λ x st t e f. not_here c.nowhere.ensures refl
-
-pub returns-then-not-plain_name : goal.returns-then-not-plain_name
-returns-then-not-plain_name c = λ x st t e f. not_here c.nowhere-then-not-plain_name.ensures refl
+returns-then-not-allowed c = λ x st t e f. not_here refl refl
 
 pub has_room-requires : goal.has_room-requires
 has_room-requires c = ((is_sane c.requires).in_file, omega arith)
-
-pub returns-then-not-has_room : goal.returns-then-not-has_room
-returns-then-not-has_room c = λ x st t e f. not_here c.nowhere-then-not-has_room.ensures refl
 
 pub put_header-a-requires : goal.put_header-a-requires
 put_header-a-requires c = omega (arith, (is_sane c.requires).low, (is_sane c.requires).in_file)

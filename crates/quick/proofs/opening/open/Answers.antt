@@ -6,13 +6,10 @@ use Rattle.quick.specs.Quick.{not_here}
 use Rattle.quick.proofs.opening.open.Goals as goal
 
 pub returns-then-not-allowed : goal.returns-then-not-allowed
-returns-then-not-allowed c = λ st t. not_here c.nowhere.ensures refl
+returns-then-not-allowed c = λ st t. not_here refl refl
 
 pub has_room-requires : goal.has_room-requires
 has_room-requires c = ((is_sane c.requires).in_file, omega arith)
-
-pub returns-then-not-has_room : goal.returns-then-not-has_room
-returns-then-not-has_room c = λ st t. not_here c.nowhere-then-not-has_room.ensures refl
 
 pub put_header-next-requires : goal.put_header-next-requires
 put_header-next-requires c = omega (arith, (is_sane c.requires).low, (is_sane c.requires).in_file)

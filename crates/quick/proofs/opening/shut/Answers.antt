@@ -5,10 +5,7 @@ use Rattle.quick.specs.Quick.{not_here}
 use Rattle.quick.proofs.opening.shut.Goals as goal
 
 pub returns-then-not-allowed : goal.returns-then-not-allowed
-returns-then-not-allowed c = λ st t. not_here c.nowhere.ensures refl
-
-pub returns-then-top-eq0 : goal.returns-then-top-eq0
-returns-then-top-eq0 c = λ st t. not_here c.nowhere-then-top-eq0.ensures refl
+returns-then-not-allowed c = λ st t. not_here refl refl
 
 pub close-around-requires : goal.close-around-requires
 close-around-requires c = closes _ _ _ c.requires c.if-top-eq0.false

@@ -6,7 +6,7 @@ use Rattle.quick.specs.Quick.{not_here}
 use Rattle.quick.proofs.runs.conditional.Goals as goal
 
 pub returns-then-not-plain : goal.returns-then-not-plain
-returns-then-not-plain c = λ st. not_here c.nowhere.ensures refl
+returns-then-not-plain c = λ st. not_here refl refl
 
 pub returns : goal.returns
 returns c =

@@ -9,7 +9,7 @@ pub has_room-requires : goal.has_room-requires
 has_room-requires c = ((is_sane c.requires.top_value).in_file, omega (arith, c.requires.style_len_bound))
 
 pub returns-then-not-has_room : goal.returns-then-not-has_room
-returns-then-not-has_room c = λ st e f a y z. not_here c.nowhere.ensures refl
+returns-then-not-has_room c = λ st e f a y z. not_here refl refl
 
 pub put_header-a-requires : goal.put_header-a-requires
 put_header-a-requires c = omega (arith, (c.has_room.ensures c.if-not-has_room.false).0)

@@ -5,10 +5,7 @@ use Rattle.quick.specs.Quick.{not_here}
 use Rattle.quick.proofs.runs.text.Goals as goal
 
 pub returns-then-not-allowed : goal.returns-then-not-allowed
-returns-then-not-allowed c = not_here c.nowhere.ensures refl
-
-pub returns-then-not-plain : goal.returns-then-not-plain
-returns-then-not-plain c = not_here c.nowhere-then-not-plain.ensures refl
+returns-then-not-allowed c = not_here refl refl
 
 pub returns : goal.returns
 returns c = (c.by_style.ensures _ c.if-not-allowed.false (plain_text _ (c.plain.ensures c.if-not-plain.false)))

@@ -1,4 +1,6 @@
 -- `scribe::stepping::act` meets its contract: a piece, fields closed, a field opened, a piece.
+use Rattle.rules.proofs.Basics.{refl}
+use Rattle.moves.specs.Stepped.{said}
 use Rattle.scribe.proofs.ActLaws.{before_short, behind_short, sane₁, closable₁, position₁, near, carried}
 use Rattle.scribe.proofs.stepping.act.Goals as goal
 
@@ -13,8 +15,8 @@ put_piece-b-requires c = behind_short _ _ _ _ _ _ c.requires
 
 pub returns : goal.returns
 returns c =
-    let r = carried _ _ _ _ _ _ c.requires c.put_piece-a.ensures c.close_fields-t.ensures c.open_field-s.ensures c.put_piece-b.ensures c.went.ensures in
-    (r, near _ _ _ _ _ _ c.requires c.put_piece-a.ensures c.close_fields-t.ensures c.open_field-s.ensures r c.went.ensures.1)
+    unfold said in let r = carried _ _ _ _ _ _ c.requires c.put_piece-a.ensures c.close_fields-t.ensures c.open_field-s.ensures c.put_piece-b.ensures (refl, refl, refl) in
+    record { says = r; near = near _ _ _ _ _ _ c.requires c.put_piece-a.ensures c.close_fields-t.ensures c.open_field-s.ensures r refl }
 
 pub close_fields-t-requires-clause-top_value : goal.close_fields-t-requires-clause-top_value
 close_fields-t-requires-clause-top_value c = sane₁ _ _ _ _ _ _ c.requires c.put_piece-a.ensures

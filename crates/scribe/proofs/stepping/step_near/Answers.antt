@@ -1,21 +1,9 @@
--- `scribe::stepping::step_near` meets its contract: the state, then the plan.
-use Rattle.rules.proofs.Basics.{arith}
-use Rattle.scribe.proofs.StepLaws.{still, passed, not_sane, reach, sanely}
+-- `scribe::stepping::step_near` meets its contract: the numbers are those of where the step leads, or as they were.
+use Rattle.scribe.proofs.StepLaws.{says_and_near}
 use Rattle.scribe.proofs.stepping.step_near.Goals as goal
 
-pub returns-then-not-sane : goal.returns-then-not-sane
-returns-then-not-sane c =
-    (not_sane _ _ _ _ _ _ c.sane.ensures c.if-not-sane.true c.refused.ensures, still c.refused.ensures (omega arith) (omega arith))
+pub returns-in-Ok : goal.returns-in-Ok
+returns-in-Ok c = says_and_near _ _ c.in-Ok.is c.from_here.ensures
 
-pub code_at-code-requires : goal.code_at-code-requires
-code_at-code-requires c = (reach _ _ _ c.sane.ensures c.if-not-sane.false).0
-
-pub first_node-requires : goal.first_node-requires
-first_node-requires c = (reach _ _ _ c.sane.ensures c.if-not-sane.false).1
-
-pub taken-requires : goal.taken-requires
-taken-requires c = passed c.sane.ensures c.if-not-sane.false
-
-pub returns : goal.returns
-returns c =
-    (sanely _ _ _ _ _ _ c.sane.ensures c.if-not-sane.false c.code_at-code.ensures c.first_node.ensures c.plan_of-p.ensures c.taken.ensures.0, c.taken.ensures.1)
+pub returns-in-Err : goal.returns-in-Err
+returns-in-Err c = says_and_near _ _ c.in-Err.is c.from_here.ensures

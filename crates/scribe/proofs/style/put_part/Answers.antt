@@ -3,8 +3,5 @@ use Rattle.moves.specs.Style.{part}
 use Rattle.writing.proofs.Laws.{nothing}
 use Rattle.scribe.proofs.style.put_part.Goals as goal
 
-pub returns-then-there : goal.returns-then-there
-returns-then-there c = unfold part in rw c.if-there.true c.put_field.ensures
-
 pub returns : goal.returns
 returns c = unfold part in rw c.if-there.false nothing

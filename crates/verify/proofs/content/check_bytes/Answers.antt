@@ -4,9 +4,6 @@ use Rattle.verify.specs.Said.{verdict}
 use Rattle.verify.proofs.ContentLaws.{calm_text, broken_text, sound_text}
 use Rattle.verify.proofs.content.check_bytes.Goals as goal
 
-pub calm-requires : goal.calm-requires
-calm-requires c = let P = c.requires in (P.rising, P.ends)
-
 pub returns-then-calm : goal.returns-then-calm
 returns-then-calm c = unfold verdict in calm_text c.requires (c.calm.ensures.says c.if-calm.true) refl
 

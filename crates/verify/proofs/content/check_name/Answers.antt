@@ -4,9 +4,6 @@ use Rattle.verify.specs.Said.{verdict}
 use Rattle.verify.proofs.ContentLaws.{calm_name, broken_name, quoted_name, sound_name}
 use Rattle.verify.proofs.content.check_name.Goals as goal
 
-pub is_calm_name-requires : goal.is_calm_name-requires
-is_calm_name-requires c = let P = c.requires in (P.rising, P.ends)
-
 pub returns-then-is_calm_name : goal.returns-then-is_calm_name
 returns-then-is_calm_name c = unfold verdict in calm_name c.requires (c.is_calm_name.ensures.says c.if-is_calm_name.true) refl
 

@@ -6,6 +6,6 @@ use Rattle.verify.proofs.glance.right_end.Goals as goal
 pub returns : goal.returns
 returns c =
     record {
-      says = λ e. plain_on 37 c.requires.1 c.behind-dim.ensures (plain_flag _ (omega arith) (omega arith)) (omega arith) (λ q. omega (arith, q))
-          (plain_on 38 c.requires.1 c.behind.ensures (plain_flag _ (omega arith) (omega arith)) (omega arith) (λ q. omega (arith, q)) (right_there (eqb-true _ _ e)));
+      says = λ e. plain_on 37 c.requires.1 (plain_flag _ (omega arith) (omega arith)) (omega arith) (λ q. omega (arith, q)) _ c.behind.ensures c.unwrap_or-dim.ensures
+          (plain_on 38 c.requires.1 (plain_flag _ (omega arith) (omega arith)) (omega arith) (λ q. omega (arith, q)) _ c.behind-2.ensures c.unwrap_or.ensures (right_there (eqb-true _ _ e)));
     }

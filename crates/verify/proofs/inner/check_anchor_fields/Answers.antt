@@ -4,7 +4,7 @@ use Rattle.rules.specs.Walk.{in_anchor}
 use Rattle.verify.proofs.SaidLaws.{sound_said, faulty_said}
 use Rattle.verify.proofs.SeenLaws.{no_name, is_named}
 use Rattle.verify.proofs.ValueLaws.{name_value}
-use Rattle.verify.proofs.RestLaws.{field_there, value_part, rest_part, rest_none, rest_short, whole_wrong, whole_stops, whole_on}
+use Rattle.verify.proofs.RestLaws.{value_of, rest_of, field_there, rest_none, rest_short, whole_wrong, whole_stops, whole_on}
 use Rattle.verify.proofs.inner.check_anchor_fields.Goals as goal
 
 pub returns-then-from-end : goal.returns-then-from-end
@@ -15,10 +15,10 @@ returns-in_default c d =
     rest_short c.requires in_anchor [] d 0 (omega (arith, c.requires.rising)) c.field_in-f.ensures c.in_default.not-Whole c.is_name.ensures c.no_field.ensures
 
 pub check_name-said-requires : goal.check_name-said-requires
-check_name-said-requires c = let A = field_there c.requires c.field_in-f.ensures c.in-Whole.is in value_part c.requires A
+check_name-said-requires c = value_of c.requires c.field_in-f.ensures c.in-Whole.is
 
 pub check_runs-requires : goal.check_runs-requires
-check_runs-requires c = let A = field_there c.requires c.field_in-f.ensures c.in-Whole.is in rest_part c.requires A
+check_runs-requires c = rest_of c.requires c.field_in-f.ensures c.in-Whole.is
 
 pub returns-then-not-is_name : goal.returns-then-not-is_name
 returns-then-not-is_name c d =

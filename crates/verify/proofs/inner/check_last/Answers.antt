@@ -4,7 +4,7 @@ use Rattle.rules.specs.Walk.{in_text}
 use Rattle.verify.specs.Said.{verdict}
 use Rattle.verify.proofs.SaidLaws.{sound_said, faulty_said}
 use Rattle.verify.proofs.SeenLaws.{no_text}
-use Rattle.verify.proofs.RestLaws.{field_there, in_the_part, value_part, rest_none, rest_short}
+use Rattle.verify.proofs.RestLaws.{value_of, rest_of, small_end, field_there, in_the_part, rest_none, rest_short}
 use Rattle.verify.proofs.TextLaws.{other_tag, faulty_text, last_text, not_last_text}
 use Rattle.verify.proofs.inner.check_last.Goals as goal
 
@@ -12,11 +12,10 @@ pub returns-then-at-end : goal.returns-then-at-end
 returns-then-at-end c d before ts L = rest_none c.requires in_text ts d before (omega arith) (no_text ts _ L.none_yet c.fault.ensures)
 
 pub check_text-said-requires : goal.check_text-said-requires
-check_text-said-requires c = let A = field_there c.requires c.field_in-f.ensures c.in-Whole.is in value_part c.requires A
+check_text-said-requires c = value_of c.requires c.field_in-f.ensures c.in-Whole.is
 
 pub no_field-requires-2 : goal.no_field-requires-2
-no_field-requires-2 c =
-    let A = field_there c.requires c.field_in-f.ensures c.in-Whole.is in (in_the_part c.requires A, omega (arith, c.requires.ends, c.requires.small))
+no_field-requires-2 c = let R = rest_of c.requires c.field_in-f.ensures c.in-Whole.is in (R.rising, small_end R)
 
 pub returns-in_default : goal.returns-in_default
 returns-in_default c d before ts L =

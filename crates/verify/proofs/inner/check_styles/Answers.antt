@@ -6,51 +6,29 @@ use Rattle.verify.proofs.TagLaws.{styles_tags}
 use Rattle.verify.proofs.SaidLaws.{not_right, right_said}
 use Rattle.verify.proofs.SeenLaws.{seen_first, seen_more, seen_all}
 use Rattle.verify.proofs.ValueLaws.{style_value}
-use Rattle.verify.proofs.RestLaws.{field_there, begins, rising, small_place, small_end, value_part, in_the_part, rest_part}
+use Rattle.verify.proofs.RestLaws.{value_of, shorter, field_there, rising, rest_part}
 use Rattle.verify.proofs.LoopLaws.{come_first, come_last, come_short, come_wrong, come_stops, come_on}
 use Rattle.verify.proofs.inner.check_styles.Goals as goal
 
 pub loop-at-init : goal.loop-at-init
 loop-at-init c = (c.requires, λ strict d. come_first in_styles d 0 [] c.requires (seen_first c.nothing-seen.ensures))
 
-pub field_in-f-requires : goal.field_in-f-requires
-field_in-f-requires c = let P = c.loop-at.invariant.0 in (P.rising, P.ends)
-
-pub bounds-s-at : goal.bounds-s-at
-bounds-s-at c = omega (arith, c.loop-at.invariant.0.ends)
-
-pub no_field-requires : goal.no_field-requires
-no_field-requires c = (c.loop-at.invariant.0.rising, small_end c.loop-at.invariant.0)
-
 pub returns-in_default : goal.returns-in_default
 returns-in_default c strict d =
     let C = c.loop-at.invariant.1 strict d in
     come_short C c.loop-at-test.true c.field_in-f.ensures c.in_default.not-Whole (rw C.keeps.last c.in_styles.ensures) c.no_field.ensures
 
-pub fault-requires : goal.fault-requires
-fault-requires c = (omega arith, (omega arith, small_place c.loop-at.invariant.0))
-
 pub slice_bounds-check_style-count : goal.slice_bounds-check_style-count
-slice_bounds-check_style-count c =
-    let P = c.loop-at.invariant.0 in let A = field_there P c.field_in-f.ensures c.in-Whole.is in rising A
+slice_bounds-check_style-count c = (value_of c.loop-at.invariant.0 c.field_in-f.ensures c.in-Whole.is).rising
 
 pub slice_bounds-check_style-start : goal.slice_bounds-check_style-start
-slice_bounds-check_style-start c =
-    let P = c.loop-at.invariant.0 in let A = field_there P c.field_in-f.ensures c.in-Whole.is in omega (arith, (value_part P A).rising, (value_part P A).ends)
+slice_bounds-check_style-start c = let V = value_of c.loop-at.invariant.0 c.field_in-f.ensures c.in-Whole.is in omega (arith, V.rising, V.ends)
 
 pub slice_bounds-check_style-end : goal.slice_bounds-check_style-end
-slice_bounds-check_style-end c =
-    let P = c.loop-at.invariant.0 in let A = field_there P c.field_in-f.ensures c.in-Whole.is in (value_part P A).ends
-
-pub told-requires : goal.told-requires
-told-requires c = small_place c.loop-at.invariant.0
+slice_bounds-check_style-end c = (value_of c.loop-at.invariant.0 c.field_in-f.ensures c.in-Whole.is).ends
 
 pub loop-at-smaller : goal.loop-at-smaller
-loop-at-smaller c =
-    let P = c.loop-at.invariant.0 in let A = field_there P c.field_in-f.ensures c.in-Whole.is in let h = in_the_part P A in let r = rising A in let b = begins A in omega (arith, h, r, b)
-
-pub complete_styles-requires : goal.complete_styles-requires
-complete_styles-requires c = omega (arith, c.loop-at.invariant.0.behind, small_place c.loop-at.invariant.0)
+loop-at-smaller c = shorter c.loop-at.invariant.0 c.field_in-f.ensures c.in-Whole.is
 
 pub returns : goal.returns
 returns c strict d =
@@ -70,7 +48,7 @@ returns-in_default-c c strict d =
     let P = c.loop-at.invariant.0 in let A = field_there P c.field_in-f.ensures c.in-Whole.is in let C = c.loop-at.invariant.1 strict d in
     let a = sym c.in_styles-in-loop-at.ensures ∙ c.if-not-in_styles.false in
     come_stops C A (rw C.keeps.last a) (style_value d _ _ _ a (c.told.ensures ∙ rw (sliced _ _ _ (rising A)) at (c.check_style-c.ensures c.loop-at.at)))
-    (rw c.told.ensures (not_right _ c.in_default-c.not-Right _))
+    (rw c.told.ensures (not_right _ c.in_default-c.not-Ok _))
 
 pub loop-at-preserved : goal.loop-at-preserved
 loop-at-preserved c =
@@ -79,5 +57,5 @@ loop-at-preserved c =
       rest_part P A,
       λ strict d. let C = c.loop-at.invariant.1 strict d in
           come_on C A (rw C.keeps.last a)
-          (style_value d _ _ _ a (right_said c.in-Right.is c.loop-at.at ∙ rw (sliced _ _ _ (rising A)) at (c.check_style-c.ensures c.loop-at.at))) (seen_more C.keeps c.with-seen.ensures),
+          (style_value d _ _ _ a (right_said c.in-Ok.is c.loop-at.at ∙ rw (sliced _ _ _ (rising A)) at (c.check_style-c.ensures c.loop-at.at))) (seen_more C.keeps c.with-seen.ensures),
     )

@@ -5,7 +5,7 @@ use Rattle.verify.specs.Said.{verdict}
 use Rattle.verify.proofs.Parts.{part_anywhere}
 use Rattle.verify.proofs.SaidLaws.{sound_said, faulty_said}
 use Rattle.verify.proofs.ValueLaws.{piece_value, block_value, deep_value}
-use Rattle.verify.proofs.RestLaws.{field_there, begins, rising, value_part, in_the_part}
+use Rattle.verify.proofs.RestLaws.{shorter, field_there, begins, rising, value_part, in_the_part}
 use Rattle.verify.proofs.LoopLaws.{come_first, come_last, come_short, come_wrong, come_stops, come_on, piece_next, node_next, no_nodes, nothing_asked}
 use Rattle.verify.proofs.walk.+check_block_check_fragment_check_node.Goals as goal
 
@@ -33,9 +33,7 @@ check_block-returns-then-said-ne-SOUND t c =
     come_stops c.loop-at.invariant.1 A (sym (piece_next _ _) ∙ eq-eqb _ 8 e) (piece_value _ _ _ (begins A) e c.check_fragment-said.ensures) (faulty_said c.if-said-ne-SOUND.true)
 
 pub check_block-loop-at-smaller-else-said-ne-SOUND : goal.check_block-loop-at-smaller-else-said-ne-SOUND
-check_block-loop-at-smaller-else-said-ne-SOUND t c =
-    let P = c.loop-at.invariant.1.part in let A = field_there P c.field_in-f.ensures c.in-Whole.is in
-    let h = in_the_part P A in let r = rising A in let q = begins A in omega (arith, h, r, q)
+check_block-loop-at-smaller-else-said-ne-SOUND t c = shorter c.loop-at.invariant.1.part c.field_in-f.ensures c.in-Whole.is
 
 pub check_block-loop-at-preserved-else-said-ne-SOUND : goal.check_block-loop-at-preserved-else-said-ne-SOUND
 check_block-loop-at-preserved-else-said-ne-SOUND t c =
@@ -46,9 +44,7 @@ check_block-loop-at-preserved-else-said-ne-SOUND t c =
     )
 
 pub check_block-loop-at-smaller : goal.check_block-loop-at-smaller
-check_block-loop-at-smaller t c =
-    let P = c.loop-at.invariant.1.part in let A = field_there P c.field_in-f.ensures c.in-Whole.is in
-    let h = in_the_part P A in let r = rising A in let q = begins A in omega (arith, h, r, q)
+check_block-loop-at-smaller t c = shorter c.loop-at.invariant.1.part c.field_in-f.ensures c.in-Whole.is
 
 pub check_block-loop-at-preserved : goal.check_block-loop-at-preserved
 check_block-loop-at-preserved t c =
@@ -87,9 +83,7 @@ check_fragment-returns-then-said-ne-SOUND t c =
     come_stops c.loop-at.invariant.1 A a (rw (begins A) at c.check_node-said.ensures) (faulty_said c.if-said-ne-SOUND.true)
 
 pub check_fragment-loop-at-smaller : goal.check_fragment-loop-at-smaller
-check_fragment-loop-at-smaller t c =
-    let P = c.loop-at.invariant.1.part in let A = field_there P c.field_in-f.ensures c.in-Whole.is in
-    let h = in_the_part P A in let r = rising A in let q = begins A in omega (arith, h, r, q)
+check_fragment-loop-at-smaller t c = shorter c.loop-at.invariant.1.part c.field_in-f.ensures c.in-Whole.is
 
 pub check_fragment-loop-at-preserved : goal.check_fragment-loop-at-preserved
 check_fragment-loop-at-preserved t c =

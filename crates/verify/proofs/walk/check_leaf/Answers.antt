@@ -2,31 +2,17 @@
 use Rattle.rules.proofs.Basics.{refl, arith}
 use Rattle.verify.specs.Said.{verdict}
 use Rattle.verify.proofs.Parts.{part_length}
-use Rattle.verify.proofs.RestLaws.{small_place}
 use Rattle.verify.proofs.ValueLaws.{run_value, anchor_value, note_value, empty_value, filled_value}
 use Rattle.verify.proofs.walk.check_leaf.Goals as goal
-
-pub check_text_fields-requires : goal.check_text_fields-requires
-check_text_fields-requires c = c.requires.node.value
 
 pub returns-then-tag-eq1 : goal.returns-then-tag-eq1
 returns-then-tag-eq1 c d = run_value d _ _ refl c.if-tag-eq1.true (c.check_text_fields.ensures d)
 
-pub check_anchor_fields-requires : goal.check_anchor_fields-requires
-check_anchor_fields-requires c = c.requires.node.value
-
 pub returns-then-tag-eq2 : goal.returns-then-tag-eq2
 returns-then-tag-eq2 c d = anchor_value d _ _ refl c.if-tag-eq2.true (c.check_anchor_fields.ensures d)
 
-pub check_text-requires : goal.check_text-requires
-check_text-requires c = c.requires.node.value
-
 pub returns-then-tag-eq7 : goal.returns-then-tag-eq7
 returns-then-tag-eq7 c d = note_value d _ _ c.if-tag-eq7.true c.check_text.ensures
-
-pub fault-requires : goal.fault-requires
-fault-requires c =
-    let P = c.requires.node.value in (omega arith, (omega arith, omega (arith, P.behind, small_place P)))
 
 pub returns-then-from-to : goal.returns-then-from-to
 returns-then-from-to c d =

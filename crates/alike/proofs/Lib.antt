@@ -1,2 +1,0 @@
--- Lengths of parts.
-pub mod Taken

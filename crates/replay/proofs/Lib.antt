@@ -1,2 +1,0 @@
--- What the replay program lends.
-pub mod Lent

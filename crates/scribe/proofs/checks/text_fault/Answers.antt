@@ -1,9 +1,0 @@
--- `scribe::checks::text_fault` meets its contract.
-use Rattle.scribe.proofs.CheckLaws.{broken_text, sound_text}
-use Rattle.scribe.proofs.checks.text_fault.Goals as goal
-
-pub returns-in_default : goal.returns-in_default
-returns-in_default c = search broken_text
-
-pub returns : goal.returns
-returns c = search sound_text
