@@ -54,6 +54,7 @@ fn pages_alike<F: Fn(&[u8], &mut [u8]) -> u64>(
 ) -> bool
     requires { F.IsAlwaysCallable entry }
 {
+    // fixed memory: there is no heap
     let mut page = [0u8; 65536];
     let mut masked = [0u8; 65536];
     let mut again = [0u8; 65536];
@@ -80,6 +81,7 @@ fn compare(
     say(rt, "HTML document", document)
 }
 
+// `copy_from_slice` asks for slices of one length.
 fn copy(from: &[u8], into: &mut [u8]) {
     if from.len() < into.len() {
         return;
@@ -104,6 +106,7 @@ fn compare_files(
 }
 
 fn main(rt: HostRuntime) -> io::Result<()> {
+    // fixed memory: there is no heap
     let mut input = [0u8; 196608];
     let mut file = [0u8; 65536];
     let mut mask = [0u8; 65536];

@@ -3,12 +3,14 @@
 #![tactic(auto)]
 
 ghost use Rattle.std.specs.Prelude.{◌≡◌, ℕ, ◌<◌, ◌^◌};
-ghost use Rattle.rules.specs.Result.{refused, refusal, said};
+ghost use Rattle.rules.specs.Result.{refused, refusal};
 ghost use Rattle.rules.specs.Answers.{coded};
+ghost use Rattle.answers.specs.ByNumber.{said};
 
 use rules::Refusal;
 use std::fmt;
 
+// The number is what the programs print and what C gets (include/hazomeny.h).
 #[derive(Debug, Clone, Copy, PartialEq, Eq)]
 pub struct Numbered {
     pub number: u64,
@@ -43,17 +45,14 @@ impl fmt::Display for Numbered {
     }
 }
 
-// 256 times the count or the place, and the refusal's number, which is 0 where the file is accepted.
-#[tactic(auto, unfolding(rules::specs::Answers::coded, rules::specs::Result::said))]
-pub fn in_one(a: Result<usize, Refusal>) -> u64
+// 256 times the count or the place, and the refusal's number, which is 0 where the answer is no refusal: whatever the number and the place.
+#[tactic(auto, unfolding(rules::specs::Answers::coded, crate::specs::ByNumber::said))]
+pub fn in_one(a: Result<usize, Numbered>) -> u64
     requires { coded (said a) < 2 ^ 64 }
     ensures { result ≡ coded (said a) }
 {
     match a {
         Ok(n) => (n as u64) * 256,
-        Err(r) => {
-            let t = Numbered::from(r);
-            (t.place as u64) * 256 + t.number
-        }
+        Err(t) => (t.place as u64) * 256 + t.number,
     }
 }

@@ -77,6 +77,7 @@ impl Numeral {
         ensures { self.new ≡ digits n ++ self.old }
     {
         let mut left = n;
+        // no plainer by an iterator: the digits are what the loop itself divides out
         while left >= 10 {
             self.push(last_digit(left));
             left /= 10;

@@ -39,7 +39,7 @@ fn paste(bytes: &mut [u8], at: usize, w: [u8; WINDOW])
     bytes[at..at + WINDOW].copy_from_slice(&w);
 }
 
-// The windows in which nothing is escaped, copied; how many bytes they are.
+// The windows in which nothing is escaped, copied; how many bytes they are. A `for` over chunks would count them once more to say how many.
 fn copy_windows(bytes: &mut [u8], at: usize, text: &[u8]) -> usize
     requires { at + length text.now ≤ length bytes.old }
     ensures { Copied bytes.old at text.now bytes.new result }

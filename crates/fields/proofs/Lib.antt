@@ -1,4 +1,4 @@
--- Laws of the field at a place, of loops over fields and of the fields of leaves; the readings of functions that call each other.
+-- Laws of the field at a place, of loops over fields and of the fields of leaves.
 pub mod Laws
 pub mod Encoded
 pub mod Spans

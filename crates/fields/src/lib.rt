@@ -10,7 +10,7 @@ pub mod parts;
 // An enum, which callers open by `let .. else`: document 01's form.
 #[derive(Debug, Clone, Copy, PartialEq, Eq)]
 pub enum Field {
-    // the whole field is there: its value stands from `from` to `to`
+    // the whole field is there: its value stands from `from` to `to`, and its tag is a byte of the file, any of the 256
     Whole { tag: u8, from: usize, to: usize },
     // its three bytes are there, and its length passes the end
     Past(u8),

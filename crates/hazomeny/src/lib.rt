@@ -12,10 +12,9 @@ ghost use Rattle.pairs.specs.Pair.{pair_answer, given_text};
 ghost use Rattle.rules.specs.Prints.{print_outcome};
 ghost use Rattle.rules.specs.Answers.{check_answer, layout_outcome, plain_outcome, body_outcome, document_outcome, strict_check_answer, strict_body_outcome, strict_document_outcome, coded, coded_outcome};
 
-use answers::in_one;
+use answers::{Numbered, in_one};
 use laying::whole::layout_with_max_line_width;
 use masking::making::mask_into;
-use masking::numbers::length_in_one;
 use masking::pair::check_pair;
 use masking::reading::text_part;
 use pages::frame::Kind;
@@ -23,7 +22,7 @@ use pages::whole::render_page;
 use prints::print_at;
 use quick::steps::{LAST_QUICK, quick_step};
 use rules::Refusal;
-use scribe::numbers::{LAST_STEP, answer_in_one, from_state, numbered, style_in};
+use scribe::numbers::{LAST_STEP, from_state, numbered, style_in};
 use scribe::stepping::step_near;
 use verify::walk::{check, check_strict};
 
@@ -37,7 +36,7 @@ pub fn check_file(file: &[u8]) -> Result<usize, Refusal>
 pub fn hazomeny_check(file: &[u8]) -> u64
     ensures { result ≡ coded (check_answer file.now) }
 {
-    in_one(check_file(file))
+    in_one(check_file(file).map_err(Numbered::from))
 }
 
 // The file check for strict HTML: a NUL in a text is refused too, by 14.
@@ -50,7 +49,7 @@ pub fn check_file_strict(file: &[u8]) -> Result<usize, Refusal>
 pub fn hazomeny_check_strict(file: &[u8]) -> u64
     ensures { result ≡ coded (strict_check_answer file.now) }
 {
-    in_one(check_file_strict(file))
+    in_one(check_file_strict(file).map_err(Numbered::from))
 }
 
 // Layout in place, at a width in columns: accepted with the number of tags that changed from 4 to 3; a refusal changes no byte.
@@ -63,7 +62,7 @@ pub fn layout_file(file: &mut [u8], width: usize) -> Result<usize, Refusal>
 pub fn hazomeny_layout(file: &mut [u8], width: usize) -> u64
     ensures { (result, file.new) ≡ coded_outcome (layout_outcome width file.old) }
 {
-    in_one(layout_file(file, width))
+    in_one(layout_file(file, width).map_err(Numbered::from))
 }
 
 // The plain page, of a file laid out or not: accepted with the page's length, written from the page's start, and later bytes as they were;
@@ -77,7 +76,7 @@ pub fn plain_page(file: &[u8], page: &mut [u8]) -> Result<usize, Refusal>
 pub fn hazomeny_plain(file: &[u8], page: &mut [u8]) -> u64
     ensures { (result, page.new) ≡ coded_outcome (plain_outcome file.now page.old) }
 {
-    in_one(plain_page(file, page))
+    in_one(plain_page(file, page).map_err(Numbered::from))
 }
 
 // The plain page of a file at a width: layout and plain page in one, with the file only read. Refusals as layout's, then 10. It is for the command and for
@@ -85,7 +84,7 @@ pub fn hazomeny_plain(file: &[u8], page: &mut [u8]) -> u64
 pub fn hazomeny_print(file: &[u8], width: usize, page: &mut [u8]) -> u64
     ensures { (result, page.new) ≡ coded_outcome (print_outcome width file.now page.old) }
 {
-    in_one(print_at(file, width, page))
+    in_one(print_at(file, width, page).map_err(Numbered::from))
 }
 
 // The HTML body: one `pre` element. Otherwise as the plain page.
@@ -98,7 +97,7 @@ pub fn html_body(file: &[u8], page: &mut [u8]) -> Result<usize, Refusal>
 pub fn hazomeny_html_body(file: &[u8], page: &mut [u8]) -> u64
     ensures { (result, page.new) ≡ coded_outcome (body_outcome file.now page.old) }
 {
-    in_one(html_body(file, page))
+    in_one(html_body(file, page).map_err(Numbered::from))
 }
 
 // The HTML document: the body in its frame, with the one style element. Otherwise as the plain page.
@@ -111,7 +110,7 @@ pub fn html_document(file: &[u8], page: &mut [u8]) -> Result<usize, Refusal>
 pub fn hazomeny_html_document(file: &[u8], page: &mut [u8]) -> u64
     ensures { (result, page.new) ≡ coded_outcome (document_outcome file.now page.old) }
 {
-    in_one(html_document(file, page))
+    in_one(html_document(file, page).map_err(Numbered::from))
 }
 
 // The HTML body in which a CR of a text is `&#13;`, so that a browser keeps it. A file with a NUL in a text, which no browser keeps, is refused by 14.
@@ -124,7 +123,7 @@ pub fn html_body_strict(file: &[u8], page: &mut [u8]) -> Result<usize, Refusal>
 pub fn hazomeny_html_body_strict(file: &[u8], page: &mut [u8]) -> u64
     ensures { (result, page.new) ≡ coded_outcome (strict_body_outcome file.now page.old) }
 {
-    in_one(html_body_strict(file, page))
+    in_one(html_body_strict(file, page).map_err(Numbered::from))
 }
 
 // The document of that body.
@@ -137,7 +136,7 @@ pub fn html_document_strict(file: &[u8], page: &mut [u8]) -> Result<usize, Refus
 pub fn hazomeny_html_document_strict(file: &[u8], page: &mut [u8]) -> u64
     ensures { (result, page.new) ≡ coded_outcome (strict_document_outcome file.now page.old) }
 {
-    in_one(html_document_strict(file, page))
+    in_one(html_document_strict(file, page).map_err(Numbered::from))
 }
 
 // The mask of a file: every byte of a text but newlines is `x`. Accepted with its length, written from the page's start; otherwise as the plain page.
@@ -150,7 +149,7 @@ pub fn mask_file(file: &[u8], page: &mut [u8]) -> Result<usize, Refusal>
 pub fn hazomeny_mask(file: &[u8], page: &mut [u8]) -> u64
     ensures { (result, page.new) ≡ coded_outcome (mask_outcome file.now page.old) }
 {
-    in_one(mask_file(file, page))
+    in_one(mask_file(file, page).map_err(Numbered::from))
 }
 
 // Original and mask together with a place: accepted with the length of the text whose field stands there. 12 where the second is not the mask of the
@@ -164,7 +163,7 @@ pub fn check_texts(original: &[u8], mask: &[u8], place: usize) -> Result<usize, 
 pub fn hazomeny_pair(original: &[u8], mask: &[u8], place: u32) -> u64
     ensures { result ≡ coded (pair_answer original.now mask.now place) }
 {
-    length_in_one(check_texts(original, mask, place as usize))
+    in_one(check_texts(original, mask, place as usize).map_err(Numbered::from))
 }
 
 // The text that a reader is given, with the right to names or without it: a part of the original or of the mask, empty where the check refuses.
@@ -174,7 +173,7 @@ pub fn text_of_pair<'a>(original: &'a [u8], mask: &'a [u8], place: usize, names:
     text_part(original, mask, place, names)
 }
 
-// Any step, whatever stands in its way. A number that is no step's is refused by 11.
+// Any step, whatever stands in its way. A number that is no step's is refused by 11: C gives a step by its number.
 fn any_step(file: &mut [u8], state: &mut [u32; 2], step: u8, style: &[u8; 18], text: &[u8]) -> u64
     ensures { Leaves result file.new state.new (write_in_c step style.now text.now file.old state.old) }
 {
@@ -187,7 +186,7 @@ fn any_step(file: &mut [u8], state: &mut [u32; 2], step: u8, style: &[u8; 18], t
     state[0] = m.at as u32;
     state[1] = m.top as u32;
     let a = m.answer;
-    answer_in_one(a)
+    in_one(a.map_err(Numbered::from))
 }
 
 // One step of a writer over `file`, by numbers: `state` has how far the file is written, and the place of the innermost open field and 1, or 0. A

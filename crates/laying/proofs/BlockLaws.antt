@@ -1,4 +1,5 @@
 -- The loop over the nodes of a stretch from its first block to its last: its start, a turn and its end.
+use Rattle.std.specs.Prelude.{Option, Some, None}
 use Rattle.rules.proofs.Basics.{◌≡◌, refl, sym, ap, subst, ◌∙◌, List, Bool, false, ℕ, ◌+◌, ◌-◌, ◌≤◌, ◌<◌, arith, eqb, eq-eqb, length, get_or, take, drop, take-append-drop, length-take-le, ◌++◌}
 use Rattle.rules.specs.Bytes.{cap}
 use Rattle.rules.specs.Walk.{is_block}
@@ -13,7 +14,9 @@ use Rattle.layout.proofs.NodeLaws.{other_tag}
 use Rattle.layout.proofs.AheadLaws.{not_either}
 use Rattle.layout.proofs.LoopLaws.{Along, along_starts, along_turn, along_ends, path_rises, later_same}
 use Rattle.rules.specs.Marks.{painted}
-use Rattle.laying.specs.Told.{bad, Fine, Passed, Checked, Open}
+use Rattle.shapes.specs.declared.ApproxLayout.{ApproxLayout}
+use Rattle.laying.proofs.Layouts.{is_there, no_layout}
+use Rattle.laying.specs.Told.{Fine, Passed, Checked, Open}
 use Rattle.laying.specs.Beside.{Clear, LaidAt}
 use Rattle.laying.specs.Walks.{NodeWalked, StretchWalked}
 use Rattle.laying.proofs.Places.{laid_within, put_back}
@@ -106,40 +109,40 @@ module _ {d i b a bound : ℕ} {so-far₀ : Shape} {s : List ℕ} {end : ℕ} {w
         }
 
     -- a block
-    module _ {l : ℕ} {ws' : List ℕ} (W : NodeWalked d i b h s node to ws l ws') where
-      pub block_wrong : l ≡ bad → StretchWalked d i b a bound so-far₀ s end ws₀ bad ws'
+    module _ {l : Option ApproxLayout} {ws' : List ℕ} (W : NodeWalked d i b h s node to ws l ws') where
+      pub block_wrong : l ≡ None → StretchWalked d i b a bound so-far₀ s end ws₀ None ws'
       block_wrong o =
           let w = W.check.wrong o in
           record {
             words = W.words ∙ p.words;
             wrong = λ z. passed_wrong p.passed (node_wrong p.part next_node d (record { what = w.what; all = rw next_tag at w.all; faulty = w.faulty }));
             sound = λ n. absurd (n refl);
-            laid = λ n. absurd (n refl);
+            laid = λ m e. no_layout e;
           }
 
-      pub block_turn : (l ≡ bad → ⊥) → BlocksAt d i b a bound so-far₀ s end ws₀ to (shape l) ws'
+      pub block_turn : {own : ApproxLayout} → l ≡ Some own → BlocksAt d i b a bound so-far₀ s end ws₀ to (shape own) ws'
       unfolding part
-      block_turn o =
-          let L = W.laid o in
-          let M : LaidAt (flex_in (32 - d) i b h) node to (take end (painted ws s)) (shape l) (take end (painted ws' s)) = laid_within up within L in
+      block_turn {own} o =
+          let L = W.laid _ o in
+          let M : LaidAt (flex_in (32 - d) i b h) node to (take end (painted ws s)) (shape own) (take end (painted ws' s)) = laid_within up within L in
           let turned = along_turn p.laid g (clear_ends p.clear p.part.rising e) M.is (part_long ws ws' s end node to) refl in
           record {
             words = W.words ∙ p.words;
             clear = clear_on p.clear up W.words L.behind;
             part = rest_part p.part next_node.there;
             left = further;
-            passed = passed_on p.passed (node_passed p.part next_node d (rw next_tag at (W.check.sound o)));
+            passed = passed_on p.passed (node_passed p.part next_node d (rw next_tag at (W.check.sound (is_there o))));
             changed = cap (p.changed + M.changed);
-            laid = subst (λ (y : List ℕ). Along (flex_in (32 - d) i b) a bound so-far₀ (take end (painted ws₀ s)) to (shape l) (cap (p.changed + M.changed)) y) (put_back up M) turned;
+            laid = subst (λ (y : List ℕ). Along (flex_in (32 - d) i b) a bound so-far₀ (take end (painted ws₀ s)) to (shape own) (cap (p.changed + M.changed)) y) (put_back up M) turned;
             behind = later_same (painted ws s) (painted ws' s) within L.behind ∙ p.behind;
           }
 
-  pub blocks_end : bound ≤ node → {r : ℕ} → Fine r h → StretchWalked d i b a bound so-far₀ s end ws₀ r ws
+  pub blocks_end : bound ≤ node → {r : Option ApproxLayout} → Fine r h → StretchWalked d i b a bound so-far₀ s end ws₀ r ws
   blocks_end g {r} R =
       let z : node ≡ bound = omega (arith, g, path_rises p.laid.path) in
       record {
         words = p.words;
         wrong = λ o. absurd (R.other o);
         sound = λ o. rw z at p.passed;
-        laid = λ o. record { changed = p.changed; onwards = rw (sym R.says) at (along_ends p.laid g); behind = p.behind };
+        laid = λ l q. record { changed = p.changed; onwards = rw (sym (R.says l q)) at (along_ends p.laid g); behind = p.behind };
       }

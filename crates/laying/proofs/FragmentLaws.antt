@@ -1,4 +1,5 @@
 -- The loop over a block's fragments: its start, a turn and its end.
+use Rattle.std.specs.Prelude.{Option, Some, None}
 use Rattle.rules.proofs.Basics.{◌≡◌, refl, sym, ap, subst, ◌∙◌, List, [], false, ℕ, ◌+◌, ◌-◌, ◌≤◌, ◌<◌, arith, leb, eqb, eq-eqb, ne_eqb, length, get_or, take, drop}
 use lib.Seq.{slice}
 use Rattle.rules.specs.Bytes.{cap}
@@ -20,7 +21,9 @@ use Rattle.verify.proofs.LoopLaws.{Come, come_first, come_on, come_short, come_w
 use Rattle.layout.specs.LaidIn.{Laid, with_fragment, flex_in, fragment_in}
 use Rattle.layout.proofs.LoopLaws.{fragment_more, later_same}
 use Rattle.rules.specs.Marks.{painted}
-use Rattle.laying.specs.Told.{bad, Fine, Wrong}
+use Rattle.shapes.specs.declared.ApproxLayout.{ApproxLayout}
+use Rattle.laying.proofs.Layouts.{is_there, no_layout}
+use Rattle.laying.specs.Told.{Fine, Wrong}
 use Rattle.laying.specs.Beside.{Clear, LaidAt}
 use Rattle.laying.specs.Walks.{fragments_from, FragmentsWalked, FragmentWalked}
 use Rattle.rules.proofs.Marked.{painted_long}
@@ -42,11 +45,11 @@ fragments_start {d} C P e = record { words = refl; clear = C; come = come_first 
 
 module _ {d i b from : ℕ} {s : List ℕ} {end : ℕ} {ws₀ : List ℕ} {at : ℕ} {h : Shape} {ws : List ℕ} (p : FragmentsAt d i b from s end ws₀ at h ws) where
   -- something is wrong
-  pub fragments_wrong : Wrong (RestSaid false in_block [] d 0 0 from (slice from end s)) → {ws' : List ℕ} → length ws' ≡ length ws → FragmentsWalked d i b from s end ws₀ bad ws'
-  fragments_wrong w e = record { words = e ∙ p.words; check = record { wrong = λ o. w; sound = λ n. absurd (n refl) }; laid = λ n. absurd (n refl) }
+  pub fragments_wrong : Wrong (RestSaid false in_block [] d 0 0 from (slice from end s)) → {ws' : List ℕ} → length ws' ≡ length ws → FragmentsWalked d i b from s end ws₀ None ws'
+  fragments_wrong w e = record { words = e ∙ p.words; check = record { wrong = λ o. w; sound = λ n. absurd (n refl) }; laid = λ m e. no_layout e }
 
   -- no whole field
-  pub fragments_short : at < end → {f : Field} → f ≡ field_at (take end s) at → NotWhole f → FragmentsWalked d i b from s end ws₀ bad ws
+  pub fragments_short : at < end → {f : Field} → f ≡ field_at (take end s) at → NotWhole f → FragmentsWalked d i b from s end ws₀ None ws
   fragments_short l e n =
       fragments_wrong (record {
         what = no_field (leb (at + 3) end) (eqb (get_or s at 0) 8) at;
@@ -55,19 +58,19 @@ module _ {d i b from : ℕ} {s : List ℕ} {end : ℕ} {ws₀ : List ℕ} {at : 
       }) refl
 
   -- no fragment
-  pub fragments_tag : {t v to : ℕ} → At s end at t v to → (t ≡ 8 → ⊥) → FragmentsWalked d i b from s end ws₀ bad ws
+  pub fragments_tag : {t v to : ℕ} → At s end at t v to → (t ≡ 8 → ⊥) → FragmentsWalked d i b from s end ws₀ None ws
   fragments_tag {t} A n =
       fragments_wrong (record { what = refused 4 at; all = come_wrong p.come A (sym (piece_next p.come.before t) ∙ ne_eqb t 8 n) refl; faulty = record { number = 4; place = at; is = refl } }) refl
 
   -- a fragment
-  module _ {t v to : ℕ} (A : At s end at t v to) (k : t ≡ 8) {l : ℕ} {ws' : List ℕ} (F : FragmentWalked d i b v s to ws l ws') where
+  module _ {t v to : ℕ} (A : At s end at t v to) (k : t ≡ 8) {l : Option ApproxLayout} {ws' : List ℕ} (F : FragmentWalked d i b v s to ws l ws') where
     P : Between s 0 at end
     P = p.come.part
 
     up : at ≤ to
     up = omega (arith, begins A, rising A)
 
-    pub fragment_wrong : l ≡ bad → FragmentsWalked d i b from s end ws₀ bad ws'
+    pub fragment_wrong : l ≡ None → FragmentsWalked d i b from s end ws₀ None ws'
     fragment_wrong e =
         let w = F.check.wrong e in
         fragments_wrong (record {
@@ -76,32 +79,32 @@ module _ {d i b from : ℕ} {s : List ℕ} {end : ℕ} {ws₀ : List ℕ} {at : 
           faulty = w.faulty;
         }) F.words
 
-    pub fragment_turn : (l ≡ bad → ⊥) → {next : Shape} → next ≡ h ⊕ shape l → FragmentsAt d i b from s end ws₀ to next ws'
+    pub fragment_turn : {own : ApproxLayout} → l ≡ Some own → {next : Shape} → next ≡ h ⊕ shape own → FragmentsAt d i b from s end ws₀ to next ws'
     unfolding part fragment_in
-    fragment_turn o {next} n =
+    fragment_turn {own} o {next} n =
         let u : List ℕ = take end (painted ws s) in
         let u' : List ℕ = take end (painted ws' s) in
         let g : List ℕ → Laid × List ℕ = fragment_in (32 - d) i b 3 in
-        let L : LaidAt g at to (painted ws s) (shape l) (painted ws' s) =
-        laid_part up (fragment_in (32 - d) i b) (λ p h k. nodes_behind (flex_in (32 - d) i b) p h k) (begins A) (omega (arith, painted_long ws s, P.rising, P.ends)) (F.laid o) in
-        let M : LaidAt g at to u (shape l) u' = laid_within up (in_the_part P A) L in
+        let L : LaidAt g at to (painted ws s) (shape own) (painted ws' s) =
+        laid_part up (fragment_in (32 - d) i b) (λ p h k. nodes_behind (flex_in (32 - d) i b) p h k) (begins A) (omega (arith, painted_long ws s, P.rising, P.ends)) (F.laid _ o) in
+        let M : LaidAt g at to u (shape own) u' = laid_within up (in_the_part P A) L in
         let long : length u ≡ end = painted_up_to ws s end P.ends in
         let turned = more p.laid (omega (arith, A.inside, long)) (clear_ends p.clear P.rising (whole_ends A P.ends)) (fragment_more g h p.changed _ _ M.is n refl) (part_long ws ws' s end at to) in
         record {
           words = F.words ∙ p.words;
-          clear = clear_on p.clear up F.words (F.laid o).behind;
-          come = come_on p.come A (sym (piece_next p.come.before t) ∙ eq-eqb t 8 k) (piece_value _ _ _ (begins A) k (F.check.sound o)) tt;
+          clear = clear_on p.clear up F.words (F.laid _ o).behind;
+          come = come_on p.come A (sym (piece_next p.come.before t) ∙ eq-eqb t 8 k) (piece_value _ _ _ (begins A) k (F.check.sound (is_there o))) tt;
           changed = _;
           laid = subst (λ (y : List ℕ). Part (with_fragment g) from (Inline 0 0, 0) (take end (painted ws₀ s)) to (next, cap (p.changed + M.changed)) y) (put_back up M) turned;
-          behind = later_same (painted ws s) (painted ws' s) (in_the_part P A) (F.laid o).behind ∙ p.behind;
+          behind = later_same (painted ws s) (painted ws' s) (in_the_part P A) (F.laid _ o).behind ∙ p.behind;
         }
 
-  pub fragments_end : end ≤ at → {r : ℕ} → Fine r h → FragmentsWalked d i b from s end ws₀ r ws
+  pub fragments_end : end ≤ at → {r : Option ApproxLayout} → Fine r h → FragmentsWalked d i b from s end ws₀ r ws
   unfolding fragments_from complete
   fragments_end g R =
       let e = ends p.laid (omega (arith, g, painted_up_to ws s end p.come.part.ends)) in
       record {
         words = p.words;
         check = record { wrong = λ o. absurd (R.other o); sound = λ o. come_last p.come g (nothing_asked in_block p.come.so_far 0 refl refl) };
-        laid = λ o. record { changed = p.changed; is = record { value = ap (λ (x : Shape). (x, p.changed)) R.says ∙ e.value; bytes = e.bytes }; behind = p.behind };
+        laid = λ l q. record { changed = p.changed; is = record { value = ap (λ (x : Shape). (x, p.changed)) (R.says l q) ∙ e.value; bytes = e.bytes }; behind = p.behind };
       }

@@ -1,11 +1,10 @@
 -- A node's check and its rigid layout, as one number.
-use Rattle.rules.proofs.Basics.{◌≡◌, refl, sym, ap, subst, ◌∙◌, List, Bool, true, false, ℕ, ◌+◌, ◌-◌, ◌≤◌, ◌<◌, take, arith, false≢true, eqb, eq-eqb, ne_eqb, eqb-true}
+use Rattle.std.specs.Prelude.{Option, Some, None}
+use Rattle.rules.proofs.Basics.{◌≡◌, refl, sym, subst, ◌∙◌, List, Bool, true, false, ℕ, ◌+◌, ◌-◌, ◌≤◌, ◌<◌, take, arith, false≢true, eqb, eq-eqb, ne_eqb, eqb-true}
 use Rattle.rules.specs.Result.{refused, accepted}
-use Rattle.rules.proofs.Chains.{no_path}
 use Rattle.rules.specs.Walk.{is_block}
 use Rattle.rules.specs.Layout.{Shape, Inline, Block}
 use Rattle.shapes.specs.Shapes.{shape}
-use Rattle.shapes.specs.Shapes as number
 use Rattle.fields.specs.Walk.{part}
 use Rattle.fields.specs.FieldAt.{field_at, length_at}
 use Rattle.fields.specs.declared.Field.TheVariants.{Whole}
@@ -25,7 +24,9 @@ use Rattle.verify.proofs.ContentLaws.{calm_text, loose_text}
 use Rattle.verify.proofs.ValueLaws.{run_value, note_value, empty_value, filled_value}
 use Rattle.verify.proofs.GlanceLaws.{filled_alone}
 use Rattle.verify.proofs.SaidLaws.{faulty_said, sound_said}
-use Rattle.laying.specs.Told.{bad, Fine, LeafSaid, LeafTold, NodeTold}
+use Rattle.shapes.specs.declared.ApproxLayout.{ApproxLayout}
+use Rattle.laying.proofs.Layouts.{no_layout, fine}
+use Rattle.laying.specs.Told.{Fine, LeafSaid, LeafTold, NodeTold}
 
 pub no_block : {t : ℕ} → (t ≡ 3 → ⊥) → (t ≡ 4 → ⊥) → is_block t ≡ false
 unfolding is_block
@@ -37,36 +38,31 @@ other_four {t} k n = eqb-true t 4 (rw (ne_eqb t 3 n) at k)
 
 module _ {s : List ℕ} {t at to : ℕ} where
   -- the check finds a fault
-  pub leaf_wrong : {v : ℕ} → LeafSaid s t at to (verdict v) → (v ≡ 0 → ⊥) → LeafTold s t at to bad
+  pub leaf_wrong : {v : ℕ} → LeafSaid s t at to (verdict v) → (v ≡ 0 → ⊥) → LeafTold s t at to None
   leaf_wrong {v} S n = record {
     check = record { wrong = λ e. record { what = verdict v; all = S; faulty = faulty_said n }; sound = λ o. absurd (o refl) };
-    layout = λ o. absurd (o refl);
+    layout = λ l e. no_layout e;
   }
 
   -- it finds none, and r is the layout
-  pub leaf_sound : {v : ℕ} → LeafSaid s t at to (verdict v) → v ≡ 0 → {x : Shape} → x ≡ by_tag t (part s (at + 3) to) → {r : ℕ} → Fine r x → LeafTold s t at to r
+  pub leaf_sound : {v : ℕ} → LeafSaid s t at to (verdict v) → v ≡ 0 → {x : Shape} → x ≡ by_tag t (part s (at + 3) to) → {r : Option ApproxLayout} → Fine r x → LeafTold s t at to r
   leaf_sound S e x F = record {
     check = record { wrong = λ o. absurd (F.other o); sound = λ o d. rw (sound_said e) at (S d) };
-    layout = λ o. F.says ∙ x;
+    layout = λ l q. F.says l q ∙ x;
   }
 
   -- a block: its rigid layout by its tag
-  pub three_told : t ≡ 3 → {x : Shape} → x ≡ Block 0 0 → {r : ℕ} → Fine r x → NodeTold s t at to r
+  pub three_told : t ≡ 3 → {x : Shape} → x ≡ Block 0 0 → {r : Option ApproxLayout} → Fine r x → NodeTold s t at to r
   unfolding by_tag is_block
-  three_told e f F = record { check = λ n. absurd (false≢true (sym n ∙ rw e)); block = λ b. F.other; layout = λ o. F.says ∙ f ∙ rw e }
+  three_told e f F = record { check = λ n. absurd (false≢true (sym n ∙ rw e)); block = λ b. F.other; layout = λ l q. F.says l q ∙ f ∙ rw e }
 
-  pub four_told : t ≡ 4 → {x : Shape} → x ≡ Inline 0 0 → {r : ℕ} → Fine r x → NodeTold s t at to r
+  pub four_told : t ≡ 4 → {x : Shape} → x ≡ Inline 0 0 → {r : Option ApproxLayout} → Fine r x → NodeTold s t at to r
   unfolding by_tag is_block
-  four_told e f F = record { check = λ n. absurd (false≢true (sym n ∙ rw e)); block = λ b. F.other; layout = λ o. F.says ∙ f ∙ rw e }
+  four_told e f F = record { check = λ n. absurd (false≢true (sym n ∙ rw e)); block = λ b. F.other; layout = λ l q. F.says l q ∙ f ∙ rw e }
 
   -- any other
-  pub other_told : is_block t ≡ false → {r : ℕ} → LeafTold s t at to r → NodeTold s t at to r
+  pub other_told : is_block t ≡ false → {r : Option ApproxLayout} → LeafTold s t at to r → NodeTold s t at to r
   other_told n L = record { check = λ o. L.check; block = λ b. absurd (false≢true (sym n ∙ b)); layout = L.layout }
-
--- part of a line is never the number that is set aside
-line_fine : {r a b : ℕ} → shape r ≡ Inline a b → Fine r (Inline a b)
-unfolding shape number.is_block number.first number.second number.of_widths
-line_fine {r} {a} {b} e = record { says = e; other = λ z. let q : Block 0 0 ≡ Inline a b = sym (ap shape z) ∙ e in no_path (cc) }
 
 -- a look that finds bytes calm finds that they lack what it looks for
 no_newline : {s : List ℕ} {from to : ℕ} {c : Bool} → Says c (Calm 10 s from to) → Says c (Lacks 10 s from to)
@@ -78,12 +74,12 @@ stands_there {s} {at = at} {end} P S h = sym (whole_in s at end P.ends (length_a
 
 module _ {s : List ℕ} {at to : ℕ} (P : Between s at (at + 3) to) where
   -- sound, and part of a line
-  found_line : {t : ℕ} → LeafSaid s t at to (accepted tt) → {r a b : ℕ} → shape r ≡ Inline a b → Inline a b ≡ by_tag t (part s (at + 3) to) → LeafTold s t at to r
-  found_line S e q = let F = line_fine e in record { check = record { wrong = λ z. absurd (F.other z); sound = λ o. S }; layout = λ o. e ∙ q }
+  found_line : {t : ℕ} → LeafSaid s t at to (accepted tt) → {r : ApproxLayout} {x : Shape} → shape r ≡ x → x ≡ by_tag t (part s (at + 3) to) → LeafTold s t at to (Some r)
+  found_line S e q = let F = fine e in record { check = record { wrong = λ z. absurd (F.other z); sound = λ o. S }; layout = λ l z. F.says l z ∙ q }
 
   -- a text of one line
   pub text_found : {f : Bool} → Says f (Stands s 17 (at + 3) to) → f ≡ true → {c : Bool} → Says c (Calm 10 s (at + 3 + 3) to) → c ≡ true → {x : ℕ} → x ≡ wide (to - (at + 3 + 3)) 10
-      → {r : ℕ} → shape r ≡ Inline x 0 → LeafTold s 1 at to r
+      → {r : ApproxLayout} → shape r ≡ Inline x 0 → LeafTold s 1 at to (Some r)
   unfolding by_tag
   text_found f t C y x q =
       let S = f.says t in
@@ -91,7 +87,7 @@ module _ {s : List ℕ} {at to : ℕ} (P : Between s at (at + 3) to) where
       (plain_quick s (at + 3) to P.ends 17 (at + 3 + 3) to refl (stands_there P S (omega arith)) (λ z. absurd (omega (arith, z))) (no_newline C) y x refl)
 
   -- a 7 of one line
-  pub note_found : {c : Bool} → Says c (Calm 10 s (at + 3) to) → c ≡ true → {x : ℕ} → x ≡ wide (to - (at + 3)) 10 → {r : ℕ} → shape r ≡ Inline x x → LeafTold s 7 at to r
+  pub note_found : {c : Bool} → Says c (Calm 10 s (at + 3) to) → c ≡ true → {x : ℕ} → x ≡ wide (to - (at + 3)) 10 → {r : ApproxLayout} → shape r ≡ Inline x x → LeafTold s 7 at to (Some r)
   unfolding by_tag
   note_found C y x q = found_line (λ d. note_value d _ _ refl (loose_text _ _ (calm_text P (C.says y) refl) refl)) q (lacking_if_block P.rising P.ends (no_newline C) y x refl)
 
@@ -110,24 +106,24 @@ module _ {s : List ℕ} {t at to : ℕ} (L : Leaf s t at to) (n1 : t ≡ 1 → �
   P : Between s at (at + 3) to
   P = L.node.value
 
-  pub empty_wrong : (at + 3 ≡ to → ⊥) → LeafTold s t at to bad
+  pub empty_wrong : (at + 3 ≡ to → ⊥) → LeafTold s t at to None
   empty_wrong n = record {
     check = record {
       wrong = λ z. record { what = refused 5 at; all = λ d. filled_value L n1 n2 n7 d _ _ (λ e. omega (arith, part_length P, P.rising, e, n)) refl; faulty = record { number = 5; place = at; is = refl } };
       sound = λ o. absurd (o refl);
     };
-    layout = λ o. absurd (o refl);
+    layout = λ l e. no_layout e;
   }
 
   module _ (e : at + 3 ≡ to) where
     nothing_inside : LeafSaid s t at to (accepted tt)
     nothing_inside d = empty_value L n1 n2 n7 d _ _ (omega (arith, part_length P, e)) refl
 
-    pub space_told : t ≡ 5 → {r : ℕ} → shape r ≡ Inline 10 0 → LeafTold s t at to r
+    pub space_told : t ≡ 5 → {r : ApproxLayout} → shape r ≡ Inline 10 0 → LeafTold s t at to (Some r)
     unfolding by_tag
     space_told q h = found_line P nothing_inside h (rw q)
 
-    pub break_told : (t ≡ 5 → ⊥) → {x : Shape} → x ≡ Block 0 0 → {r : ℕ} → Fine r x → LeafTold s t at to r
+    pub break_told : (t ≡ 5 → ⊥) → {x : Shape} → x ≡ Block 0 0 → {r : Option ApproxLayout} → Fine r x → LeafTold s t at to r
     unfolding by_tag is_block
     break_told m h F =
         let (lo, hi) = fragment_tags {before = 0} (record { yes = L.node.right_tag }) in
@@ -135,8 +131,8 @@ module _ {s : List ℕ} {t at to : ℕ} (L : Leaf s t at to) (n1 : t ≡ 1 → �
         let n3 : t ≡ 3 → ⊥ = λ e. n.0 (eq-eqb t 3 e) in
         let n4 : t ≡ 4 → ⊥ = λ e. n.1 (eq-eqb t 4 e) in
         let six : t ≡ 6 = among t lo hi n1 n2 n3 n4 m n7 in
-        record { check = record { wrong = λ z. absurd (F.other z); sound = λ o. nothing_inside }; layout = λ o. F.says ∙ h ∙ rw six }
+        record { check = record { wrong = λ z. absurd (F.other z); sound = λ o. nothing_inside }; layout = λ l q. F.says l q ∙ h ∙ rw six }
 
 -- by the tag that was tested for
-pub as_tag : {s : List ℕ} {t k at to r : ℕ} → t ≡ k → LeafTold s k at to r → LeafTold s t at to r
+pub as_tag : {s : List ℕ} {t k at to : ℕ} {r : Option ApproxLayout} → t ≡ k → LeafTold s k at to r → LeafTold s t at to r
 as_tag {s} {at = at} {to} {r} e L = subst (λ (t : ℕ). LeafTold s t at to r) (sym e) L

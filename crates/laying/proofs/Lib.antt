@@ -1,4 +1,5 @@
 -- The laws behind layout beside a file.
+pub mod Layouts
 pub mod PaintedLaws
 pub mod ShownLaws
 pub mod Places

@@ -1,4 +1,5 @@
 -- The check of a fragment's nodes, some of which are passed over and checked later: what is left says, and where something is wrong.
+use Rattle.std.specs.Prelude.{Option, None}
 use Rattle.std.specs.Prelude.{if◌then◌else◌}
 use Rattle.rules.proofs.Basics.{◌≡◌, refl, sym, subst, ◌∙◌, List, [], ◌∷◌, ◌++◌, Bool, true, false, ℕ, zero, suc, ◌+◌, ◌≤◌, ◌<◌, arith, leb, eqb, eqb-true, get_or, take}
 use lib.Seq.{slice}
@@ -13,7 +14,8 @@ use Rattle.verify.specs.Walked.{value_result, ValueSaid, Between}
 use Rattle.verify.proofs.FrontLaws.{no_field_faulty}
 use Rattle.verify.proofs.RestLaws.{At, begins, rest_part, rest_none, rest_short, whole_wrong, whole_stops, whole_on}
 use Rattle.verify.proofs.LoopLaws.{node_next, nothing_asked}
-use Rattle.laying.specs.Told.{bad, Wrong, Rest, Passed, Checked, Nodes, Open, Seen, NodeTold}
+use Rattle.shapes.specs.declared.ApproxLayout.{ApproxLayout}
+use Rattle.laying.specs.Told.{Wrong, Rest, Passed, Checked, Nodes, Open, Seen, NodeTold}
 
 -- ---- passed
 
@@ -70,7 +72,7 @@ module _ {s : List ℕ} {end a : ℕ} (P : Between s 0 a end) (d : ℕ) where
   }
 
 -- a node that is told to be wrong is no block
-pub leaf_wrong : {s : List ℕ} {end a : ℕ} → Between s 0 a end → {t from to : ℕ} → At s end a t from to → allowed in_fragment 0 t ≡ true → {r : ℕ} → NodeTold s t a to r → r ≡ bad
+pub leaf_wrong : {s : List ℕ} {end a : ℕ} → Between s 0 a end → {t from to : ℕ} → At s end a t from to → allowed in_fragment 0 t ≡ true → {r : Option ApproxLayout} → NodeTold s t a to r → r ≡ None
     → (d : ℕ) → Wrong (Rest d s end a)
 leaf_wrong {s} {end} {a} P {t} {from} {to} A right {r} N e d = go (is_block t) refl
   where

@@ -1,4 +1,5 @@
 -- The loop over a stretch's nodes, for its layout and for its check: its start, a turn and its end.
+use Rattle.std.specs.Prelude.{Some}
 use Rattle.std.specs.Prelude.{if◌then◌else◌}
 use Rattle.rules.proofs.Basics.{◌≡◌, refl, sym, ap, subst, ◌∙◌, List, Bool, true, false, ℕ, ◌+◌, ◌-◌, ◌<◌, ◌≤◌, arith, eqb, length, get_or, take, length-take-le}
 use Rattle.rules.specs.Walk.{in_fragment, allowed, is_block}
@@ -11,7 +12,9 @@ use Rattle.verify.specs.Walked.{Between}
 use Rattle.verify.proofs.Parts.{up_to}
 use Rattle.verify.proofs.RestLaws.{At, begins, rising, in_the_part}
 use Rattle.layout.proofs.AheadLaws.{Marked, Ahead, ahead_starts, flexible_marked, other_marked, by_its_tag, ahead_on, ahead_stops, ahead_ends}
-use Rattle.laying.specs.Told.{bad, Wrong, Rest, Checked, NodeTold, StretchTold}
+use Rattle.shapes.specs.declared.ApproxLayout.{ApproxLayout}
+use Rattle.laying.proofs.Layouts.{is_there}
+use Rattle.laying.specs.Told.{Wrong, Rest, Checked, NodeTold, StretchTold}
 use Rattle.rigid.proofs.Places.{part_of_front}
 use Rattle.laying.proofs.Passing.{Looked, looked_starts, looked_wrong, looked_block, looked_leaf, looked_seen}
 
@@ -34,9 +37,9 @@ module _ {s : List ℕ} {end from : ℕ} {so-far₀ : Shape} {at : ℕ} {so_far 
   along_wrong w d = looked_wrong p.looked d (w d)
 
   -- a node
-  module _ {t v to : ℕ} (A : At s end at t v to) (right : allowed in_fragment 0 t ≡ true) {own : ℕ} (N : NodeTold s t at to own) (o : own ≡ bad → ⊥) where
+  module _ {t v to : ℕ} (A : At s end at t v to) (right : allowed in_fragment 0 t ≡ true) {own : ApproxLayout} (N : NodeTold s t at to (Some own)) where
     pub node_checked : Checked s end t at to
-    node_checked = record { there = rw (sym (begins A)) at A; right = right; leaf = λ n. (N.check n).sound o }
+    node_checked = record { there = rw (sym (begins A)) at A; right = right; leaf = λ n. (N.check n).sound (is_there refl) }
 
     P : Between s 0 at end
     P = p.looked.part
@@ -56,7 +59,7 @@ module _ {s : List ℕ} {end from : ℕ} {so-far₀ : Shape} {at : ℕ} {so_far 
     own_is : shape own ≡ rigid_in (part (take end s) at to)
     own_is =
         by_its_tag p.ahead there ends three
-        (N.layout o ∙ ap (λ (t : ℕ). by_tag t (part s (at + 3) to)) (sym A.whole.tag_is) ∙ ap (by_tag (get_or (take end s) at 0)) (sym (part_of_front s (at + 3) to end (omega (arith, begins A, rising A)) (in_the_part P A))))
+        (N.layout own refl ∙ ap (λ (t : ℕ). by_tag t (part s (at + 3) to)) (sym A.whole.tag_is) ∙ ap (by_tag (get_or (take end s) at 0)) (sym (part_of_front s (at + 3) to end (omega (arith, begins A, rising A)) (in_the_part P A))))
 
     -- its mark
     pub record On (first' bound' : ℕ) : Type 0 where

@@ -1,5 +1,6 @@
 -- Layout of a whole file: what is refused, and what an accepted file becomes.
-use Rattle.std.specs.Prelude.{Ok}
+use Rattle.std.specs.Prelude.{Option, Some, None, Ok}
+use Rattle.shapes.specs.declared.ApproxLayout.{ApproxLayout}
 use Rattle.rules.proofs.Basics.{◌≡◌, refl, sym, ap, ◌∙◌, List, [], false, ℕ, ◌*◌, ◌≤◌, arith, length, take, le-leb, take_all}
 use lib.Seq.{slice}
 use Rattle.rules.specs.Limits.{most_bytes, most_columns}
@@ -61,12 +62,12 @@ module _ (w : ℕ) (s : List ℕ) (h : length s ≤ most_bytes) (g : w ≤ most_
       ap (λ (y : List ℕ). (accepted (length (changed 0 s y)), y)) bytes
       ∙ sym (checked_outcome ∙ ap (λ x. left_laid s (x >>= (λ t. accepted (layout newline w t)))) A.its_tree)
 
-  pub first_walk : Bytes s → {ws : List ℕ} → Clear ws s 0 → {m : ℕ} → m ≡ 10 * w → {r : ℕ} {ws' : List ℕ} → FragmentWalked 0 m m 0 s (length s) ws r ws' → FirstWalk w s r ws'
+  pub first_walk : Bytes s → {ws : List ℕ} → Clear ws s 0 → {m : ℕ} → m ≡ 10 * w → {r : Option ApproxLayout} {ws' : List ℕ} → FragmentWalked 0 m m 0 s (length s) ws r ws' → FirstWalk w s r ws'
   first_walk b {ws} C {m} k {r} {ws'} F = record {
     words = F.words ∙ C.words;
     refuses = λ e. wrong_refused (F.check.wrong e);
     wrong = λ e. wrong_outcome (F.check.wrong e);
-    laid = λ o s' q. laid_outcome b (F.check.sound o) k (same s' q (F.laid o).is);
+    laid = λ o s' q. whole_laid r refl o s' q;
   }
     where
       all : (vs : List ℕ) → take (length s) (painted vs s) ≡ painted vs s
@@ -76,6 +77,10 @@ module _ (w : ℕ) (s : List ℕ) (h : length s ≤ most_bytes) (g : w ≤ most_
       same s' q i =
           let e : take (length s) (painted ws s) ≡ s = all ws ∙ C.is in
           record { value = i.value ∙ ap (λ (u : List ℕ). (fragment_in 32 m m 0 u).0) e; bytes = q ∙ sym (all ws') ∙ i.bytes ∙ ap (λ (u : List ℕ). (fragment_in 32 m m 0 u).1) e }
+
+      whole_laid : (x : Option ApproxLayout) → r ≡ x → (r ≡ None → ⊥) → (s' : List ℕ) → s' ≡ painted ws' s → (accepted (length (changed 0 s s')), s') ≡ layout_outcome w s
+      whole_laid None e o s' q = absurd (o e)
+      whole_laid (Some l) e o s' q = laid_outcome b (F.check.sound o) k (same s' q (F.laid l e).is)
 
 -- counted by the marks
 pub shown_outcome : {ws s s' : List ℕ} {r : ℕ} → ShownAll ws s s' r → {y : Result ℕ × List ℕ} → (accepted (length (changed 0 s s')), s') ≡ y → (accepted r, s') ≡ y

@@ -1,9 +1,10 @@
--- What a number of the first walk says: a layout where a part of the file is accepted, and one number where it is not.
-use Rattle.std.specs.Prelude.{◌≡◌, List, true, false, ℕ, zero, suc, ◌+◌, ◌≤◌, take}
+-- What the first walk says of a part of the file: a layout where it is accepted, and none where it is not.
+use Rattle.std.specs.Prelude.{◌≡◌, Option, Some, None, List, true, false, ℕ, zero, suc, ◌+◌, ◌≤◌, take}
 use Rattle.std.proofs.Math.Seq.{slice}
 use Rattle.rules.specs.Result.{Result, accepted}
 use Rattle.rules.specs.Walk.{in_fragment, allowed, is_block}
 use Rattle.rules.specs.Layout.{Shape}
+use Rattle.shapes.specs.declared.ApproxLayout.{ApproxLayout}
 use Rattle.shapes.specs.Shapes.{shape}
 use Rattle.fields.specs.Walk.{part}
 use Rattle.rigid.specs.RigidIn.{by_tag}
@@ -12,14 +13,10 @@ use Rattle.verify.proofs.SaidLaws.{Faulty}
 use Rattle.verify.proofs.RestLaws.{At}
 use Rattle.layout.specs.Stretches.{Stretched}
 
--- the number that is no layout
-abbrev pub bad : ℕ
-bad = 8_589_934_592
-
--- a layout's number that says x
-pub record Fine (r : ℕ) (x : Shape) : Type 0 where
-  pub says : shape r ≡ x
-  pub other : r ≡ bad → ⊥
+-- a layout, and it says x
+pub record Fine (r : Option ApproxLayout) (x : Shape) : Type 0 where
+  pub says : (l : ApproxLayout) → r ≡ Some l → shape l ≡ x
+  pub other : r ≡ None → ⊥
 
 -- ---- whether it is accepted
 
@@ -29,9 +26,9 @@ pub record Wrong (All : Result (Unit {0}) → Type 0) : Type 0 where
   pub all : All what
   pub faulty : Faulty what
 
-pub record Tells (r : ℕ) (All : Result (Unit {0}) → Type 0) : Type 0 where
-  pub wrong : r ≡ bad → Wrong All
-  pub sound : (r ≡ bad → ⊥) → All (accepted tt)
+pub record Tells (r : Option ApproxLayout) (All : Result (Unit {0}) → Type 0) : Type 0 where
+  pub wrong : r ≡ None → Wrong All
+  pub sound : (r ≡ None → ⊥) → All (accepted tt)
 
 -- ---- a leaf, from `at` to `to`
 
@@ -42,15 +39,15 @@ LeafSaid s t at to x = (d : ℕ) → ValueSaid false t d at (slice (at + 3) to s
 pub record Valued (t : ℕ) : Type 0 where
   pub last : (t ≡ 1 → ⊥) → (t ≡ 2 → ⊥) → t ≡ 7
 
-pub record LeafTold (s : List ℕ) (t at to r : ℕ) : Type 0 where
+pub record LeafTold (s : List ℕ) (t at to : ℕ) (r : Option ApproxLayout) : Type 0 where
   pub check : Tells r (LeafSaid s t at to)
-  pub layout : (r ≡ bad → ⊥) → shape r ≡ by_tag t (part s (at + 3) to)
+  pub layout : (l : ApproxLayout) → r ≡ Some l → shape l ≡ by_tag t (part s (at + 3) to)
 
 -- any node: of a block nothing is told but its rigid layout
-pub record NodeTold (s : List ℕ) (t at to r : ℕ) : Type 0 where
+pub record NodeTold (s : List ℕ) (t at to : ℕ) (r : Option ApproxLayout) : Type 0 where
   pub check : is_block t ≡ false → Tells r (LeafSaid s t at to)
-  pub block : is_block t ≡ true → r ≡ bad → ⊥
-  pub layout : (r ≡ bad → ⊥) → shape r ≡ by_tag t (part s (at + 3) to)
+  pub block : is_block t ≡ true → r ≡ None → ⊥
+  pub layout : (l : ApproxLayout) → r ≡ Some l → shape l ≡ by_tag t (part s (at + 3) to)
 
 -- ---- nodes of a fragment that ends at `end`, inside d blocks
 

@@ -1,4 +1,5 @@
 // The first walk: the nodes of a fragment, a block's fragments. They call each other, inside one block more each time round.
+// No `for` in their loops: a field ends where its own bytes say, and the next begins there.
 ghost use Rattle.std.specs.Prelude.{◌≡◌, true, [], ◌+◌, ◌<◌, max, length, get_or, take};
 ghost use Rattle.std.proofs.Math.Seq.{slice};
 ghost use Rattle.rules.specs.Layout as rules;
@@ -11,32 +12,32 @@ ghost use Rattle.laying.specs.Told.{Open};
 ghost use Rattle.laying.specs.Beside.{Clear};
 ghost use Rattle.laying.specs.Walks.{Indented, Decided, NodeWalked, FragmentsWalked, StretchWalked, FragmentWalked};
 
-use crate::answer::{BAD, told};
 use crate::marks::{Marks, mark};
 use crate::stretch::{ahead, behind};
 use fields::parts::field_end_in;
 use fields::{Field, field_in};
 use rules::{INDENTATION, MOST_BLOCKS};
-use shapes::{ApproxLayout, append, block_or_mixed, first, inline, is_block, second};
+use shapes::ApproxLayout::{BlockOrMixed, Inline};
+use shapes::{ApproxLayout, append};
 use verify::tables;
 
 // The inline maximum that is left after what is laid out so far.
 fn room(inline_max: u16, block_max: u16, so_far: ApproxLayout) -> u16
     ensures { result ≡ rules.room inline_max block_max (shape so_far) }
 {
-    if is_block(so_far) {
-        return block_max.saturating_sub(second(so_far));
+    match so_far {
+        Inline { worst, .. } => inline_max.saturating_sub(worst),
+        BlockOrMixed { post, .. } => block_max.saturating_sub(post),
     }
-    inline_max.saturating_sub(first(so_far))
 }
 
 // The block at `at` does not fit.
 fn indented(bits: &mut Marks, at: usize, so_far: ApproxLayout) -> ApproxLayout
     requires { at < 60_000 }
-    ensures { Indented bits.old at (shape so_far) result bits.new }
+    ensures { Indented bits.old at (shape so_far) (shape result) bits.new }
 {
     mark(bits, at);
-    told(append(so_far, block_or_mixed(0, 0)))
+    append(so_far, BlockOrMixed { pre: 0, post: 0 })
 }
 
 // The block at `at`, whose fragments took up `own`: it stays inline where they fit the inline maximum, less what stands only in a block.
@@ -48,16 +49,20 @@ fn decide(
     own: ApproxLayout,
 ) -> ApproxLayout
     requires { at < 60_000 }
-    ensures { Decided bits.old at inline_max (shape so_far) (shape own) result bits.new }
+    ensures { Decided bits.old at inline_max (shape so_far) (shape own) (shape result) bits.new }
 {
-    if is_block(own) {
+    let Inline { worst, excess } = own else {
         return indented(bits, at, so_far);
-    }
-    let candidate = first(own).saturating_sub(second(own));
+    };
+    let candidate = worst.saturating_sub(excess);
     if inline_max < candidate {
         return indented(bits, at, so_far);
     }
-    told(append(so_far, inline(candidate, 0)))
+    let kept = Inline {
+        worst: candidate,
+        excess: 0,
+    };
+    append(so_far, kept)
 }
 
 // A block, from `at` to `to`, after what is laid out so far. File, marks and the two widths stay parameters of their own, no plainer as a struct: each call makes the widths
@@ -72,28 +77,22 @@ fn approx_flex_layout(
     block_max: u16,
     so_far: ApproxLayout,
     depth: usize,
-) -> ApproxLayout
+) -> Option<ApproxLayout>
     requires { Clear bits.old s.now at × (Between s.now at (at + 3) to × (is_block (get_or s.now at 0) ≡ true)) }
     ensures { NodeWalked depth inline_max block_max (shape so_far) s.now at to bits.old result bits.new }
 {
     if MOST_BLOCKS <= depth {
-        return BAD;
+        return None;
     }
     let block = block_max.saturating_sub(INDENTATION);
     let from = at + 3;
     if s[at] == 3 {
-        let l = approx_fragments_layout(s, bits, from, to, block, block, depth + 1);
-        if l == BAD {
-            return BAD;
-        }
-        return told(append(so_far, block_or_mixed(0, 0)));
+        approx_fragments_layout(s, bits, from, to, block, block, depth + 1)?;
+        return Some(append(so_far, BlockOrMixed { pre: 0, post: 0 }));
     }
     let most = room(inline_max, block_max, so_far);
-    let l = approx_fragments_layout(s, bits, from, to, most.max(block), block, depth + 1);
-    if l == BAD {
-        return BAD;
-    }
-    decide(bits, at, most, so_far, l)
+    let l = approx_fragments_layout(s, bits, from, to, most.max(block), block, depth + 1)?;
+    Some(decide(bits, at, most, so_far, l))
 }
 
 // The fragments of a block, from `from` to `end`, inside `depth` blocks with it.
@@ -106,29 +105,29 @@ fn approx_fragments_layout(
     inline_max: u16,
     block_max: u16,
     depth: usize,
-) -> ApproxLayout
+) -> Option<ApproxLayout>
     requires { Clear bits.old s.now from × Between s.now 0 from end }
     ensures { FragmentsWalked depth inline_max block_max from s.now end bits.old result bits.new }
 {
-    let mut layout = inline(0, 0);
+    let mut layout = Inline {
+        worst: 0,
+        excess: 0,
+    };
     let mut at = from;
     // no plainer by an iterator: each field says where the next begins, and the first fault ends the walk
     while at < end {
         let f = field_in(s, at, end);
         let Field::Whole { tag, from: v, to } = f else {
-            return BAD;
+            return None;
         };
         if tag != 8 {
-            return BAD;
+            return None;
         }
-        let l = approx_layout(s, bits, v, to, inline_max, block_max, depth);
-        if l == BAD {
-            return BAD;
-        }
+        let l = approx_layout(s, bits, v, to, inline_max, block_max, depth)?;
         layout = append(layout, l);
         at = to;
     }
-    told(layout)
+    Some(layout)
 }
 
 // The nodes of a stretch from `start` to `bound`, one after the other: each block is walked.
@@ -143,7 +142,7 @@ fn approx_stretch_layout(
     block_max: u16,
     so_far: ApproxLayout,
     depth: usize,
-) -> ApproxLayout
+) -> Option<ApproxLayout>
     requires { Clear bits.old s.now start × (Between s.now 0 bound end × (Path (take end s.now) start bound × Open s.now end start bound)) }
     ensures { StretchWalked depth inline_max block_max start bound (shape so_far) s.now end bits.old result bits.new }
 {
@@ -156,14 +155,11 @@ fn approx_stretch_layout(
             node = to;
             continue;
         }
-        let l = approx_flex_layout(s, bits, node, to, inline_max, block_max, layout, depth);
-        if l == BAD {
-            return BAD;
-        }
+        let l = approx_flex_layout(s, bits, node, to, inline_max, block_max, layout, depth)?;
         layout = l;
         node = to;
     }
-    told(layout)
+    Some(layout)
 }
 
 // The nodes of a fragment, from `from` to `end`, inside `depth` blocks, a stretch at a time.
@@ -176,25 +172,23 @@ pub fn approx_layout(
     inline_max: u16,
     block_max: u16,
     depth: usize,
-) -> ApproxLayout
+) -> Option<ApproxLayout>
     requires { Clear bits.old s.now from × Between s.now 0 from end }
     ensures { FragmentWalked depth inline_max block_max from s.now end bits.old result bits.new }
 {
-    let mut layout = inline(0, 0);
+    let mut layout = Inline {
+        worst: 0,
+        excess: 0,
+    };
     let mut at = from;
     // a stretch says where the next begins, as a field does above
     while at < end {
-        let Some(st) = ahead(s, at, end, layout) else {
-            return BAD;
-        };
+        let st = ahead(s, at, end, layout)?;
         let l = approx_stretch_layout(
             s, bits, st.first, st.bound, end, inline_max, block_max, st.layout, depth,
-        );
-        if l == BAD {
-            return BAD;
-        }
+        )?;
         layout = behind(l, st.last);
         at = st.stop;
     }
-    told(layout)
+    Some(layout)
 }

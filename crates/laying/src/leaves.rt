@@ -1,14 +1,15 @@
 // A node that is no block: its check, and its rigid layout.
-ghost use Rattle.std.specs.Prelude.{◌≡◌, false, ℕ, ◌+◌, IfSome};
+// A tag stays a byte of the file (`verify::tables`).
+ghost use Rattle.std.specs.Prelude.{◌≡◌, false, ℕ, ◌+◌, Some, IfSome};
 ghost use Rattle.std.proofs.Math.Seq.{slice};
 ghost use Rattle.verify.specs.Said.{verdict};
 ghost use Rattle.verify.specs.Walked.{Between, Leaf, ValueSaid};
 ghost use Rattle.laying.specs.Told.{Valued, LeafTold};
 
-use crate::answer::{BAD, told};
 use looks::calm;
 use rigid::{approx_rigid_layout, columns};
-use shapes::{ApproxLayout, block_or_mixed, inline};
+use shapes::ApproxLayout;
+use shapes::ApproxLayout::{BlockOrMixed, Inline};
 use verify::content::check_text;
 use verify::glance::fills;
 use verify::inner::{check_anchor_fields, check_text_fields};
@@ -34,25 +35,28 @@ fn check_value(s: &[u8], at: usize, to: usize, tag: u8) -> Verdict
 }
 
 // Any of these, from `at` to `to`: the check, then the layout.
-fn any_leaf(s: &[u8], at: usize, to: usize, tag: u8) -> ApproxLayout
+fn any_leaf(s: &[u8], at: usize, to: usize, tag: u8) -> Option<ApproxLayout>
     requires { Leaf s.now tag at to × Valued tag }
     ensures { LeafTold s.now tag at to result }
 {
     if check_value(s, at, to, tag) != SOUND {
-        return BAD;
+        return None;
     }
-    told(approx_rigid_layout(tag, s, at + 3, to))
+    Some(approx_rigid_layout(tag, s, at + 3, to))
 }
 
 // A text of one 17, of few bytes in ASCII and on one line. `None` says nothing.
 fn quick_text(s: &[u8], at: usize, to: usize) -> Option<ApproxLayout>
     requires { Between s.now at (at + 3) to }
-    ensures { IfSome result (LeafTold s.now 1 at to) }
+    ensures { IfSome result (λ own. LeafTold s.now 1 at to (Some own)) }
 {
     let from = at + 3;
     let text = from + 3;
     if fills(s, from, to) && calm(s, text, to, b'\n') {
-        return Some(inline(columns(to - text, BYTE), 0));
+        return Some(Inline {
+            worst: columns(to - text, BYTE),
+            excess: 0,
+        });
     }
     None
 }
@@ -60,38 +64,44 @@ fn quick_text(s: &[u8], at: usize, to: usize) -> Option<ApproxLayout>
 // A 7 of few bytes in ASCII and on one line. `None` says nothing.
 fn quick_note(s: &[u8], at: usize, to: usize) -> Option<ApproxLayout>
     requires { Between s.now at (at + 3) to }
-    ensures { IfSome result (LeafTold s.now 7 at to) }
+    ensures { IfSome result (λ own. LeafTold s.now 7 at to (Some own)) }
 {
     let from = at + 3;
     if calm(s, from, to, b'\n') {
         let worst = columns(to - from, BYTE);
-        return Some(inline(worst, worst));
+        return Some(Inline {
+            worst,
+            excess: worst,
+        });
     }
     None
 }
 
 // A 5 or a 6.
-fn empty_leaf(s: &[u8], at: usize, to: usize, tag: u8) -> ApproxLayout
+fn empty_leaf(s: &[u8], at: usize, to: usize, tag: u8) -> Option<ApproxLayout>
     requires { Leaf s.now tag at to × ((tag ≡ 1 → ⊥) × ((tag ≡ 2 → ⊥) × (tag ≡ 7 → ⊥))) }
     ensures { LeafTold s.now tag at to result }
 {
     if at + 3 != to {
-        return BAD;
+        return None;
     }
     if tag == 5 {
-        return inline(BYTE, 0);
+        return Some(Inline {
+            worst: BYTE,
+            excess: 0,
+        });
     }
-    told(block_or_mixed(0, 0))
+    Some(BlockOrMixed { pre: 0, post: 0 })
 }
 
 // The node of the tag stands from `at` to `to`.
-pub fn leaf(s: &[u8], at: usize, to: usize, tag: u8) -> ApproxLayout
+pub fn leaf(s: &[u8], at: usize, to: usize, tag: u8) -> Option<ApproxLayout>
     requires { Leaf s.now tag at to }
     ensures { LeafTold s.now tag at to result }
 {
     if tag == 1 {
         if let Some(own) = quick_text(s, at, to) {
-            return own;
+            return Some(own);
         }
         return any_leaf(s, at, to, tag);
     }
@@ -100,7 +110,7 @@ pub fn leaf(s: &[u8], at: usize, to: usize, tag: u8) -> ApproxLayout
     }
     if tag == 7 {
         if let Some(own) = quick_note(s, at, to) {
-            return own;
+            return Some(own);
         }
         return any_leaf(s, at, to, tag);
     }

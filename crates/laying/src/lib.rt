@@ -2,7 +2,6 @@
 
 #![tactic(auto)]
 
-pub mod answer;
 pub mod flex;
 pub mod leaves;
 pub mod marks;

@@ -1,4 +1,4 @@
-// The marks: a bit for each place of a file. A mark says that a 3 stands there in place of the file's own byte.
+// The marks: a bit for each place of a file, in fixed memory, since there is no heap. A mark says that a 3 stands there in place of the file's own byte.
 ghost use Rattle.std.specs.Prelude.{◌≡◌, List, ℕ, ◌+◌, ◌<◌, ◌≤◌, length, get_or};
 ghost use Rattle.rules.specs.Marks.{marked};
 ghost use Rattle.laying.specs.Painted.{MarkedAt, Shown, ShownAll, WordAt};

@@ -1,15 +1,16 @@
 // A stretch of a fragment's nodes, up to the next rigid block: its leaves are checked and their rigid layouts appended; of its blocks only the headers
-// are looked at.
+// are looked at. No `for`: a field ends where its own bytes say, and the next begins there.
+// A tag stays a byte of the file (`verify::tables`).
 ghost use Rattle.std.specs.Prelude.{◌≡◌, ℕ, ◌<◌, eqb, if◌then◌else◌, MatchOption};
 ghost use Rattle.shapes.specs.Shapes.{shape};
 ghost use Rattle.verify.specs.Walked.{Between, Node};
 ghost use Rattle.layout.specs.LaidIn.{behind_in};
 ghost use Rattle.laying.specs.Told.{Wrong, Rest, NodeTold, StretchTold};
 
-use crate::answer::{BAD, told};
 use crate::leaves::leaf;
 use fields::{Field, field_in};
-use shapes::{ApproxLayout, append, block_or_mixed, first, inline, is_block, second};
+use shapes::ApproxLayout::{BlockOrMixed, Inline};
+use shapes::{ApproxLayout, append};
 use verify::tables;
 
 // What is laid out with the stretch's rigid layouts; where its first 3 or 4 stands and its last one ends, both where it begins without one; where the
@@ -34,15 +35,18 @@ fn first_of(from: usize, first: usize, bound: usize, at: usize) -> usize
 }
 
 // A node of the tag, from `at` to `to`: of a block the rigid layout alone.
-fn rigid_node(s: &[u8], at: usize, to: usize, tag: u8) -> ApproxLayout
+fn rigid_node(s: &[u8], at: usize, to: usize, tag: u8) -> Option<ApproxLayout>
     requires { Node s.now tag at to }
     ensures { NodeTold s.now tag at to result }
 {
     if tag == 3 {
-        return told(block_or_mixed(0, 0));
+        return Some(BlockOrMixed { pre: 0, post: 0 });
     }
     if tag == 4 {
-        return told(inline(0, 0));
+        return Some(Inline {
+            worst: 0,
+            excess: 0,
+        });
     }
     leaf(s, at, to, tag)
 }
@@ -65,17 +69,18 @@ pub fn ahead(s: &[u8], from: usize, end: usize, so_far: ApproxLayout) -> Option<
         if !tables::in_fragment(tag) {
             return None;
         }
-        let own = rigid_node(s, at, to, tag);
-        if own == BAD {
-            return None;
-        }
+        let own = rigid_node(s, at, to, tag)?;
         if tables::is_block(tag) {
             start = first_of(from, start, bound, at);
             bound = to;
         }
-        if is_block(own) {
+        if let BlockOrMixed { pre, .. } = own {
+            let before = Inline {
+                worst: pre,
+                excess: 0,
+            };
             return Some(Stretch {
-                layout: append(layout, inline(first(own), 0)),
+                layout: append(layout, before),
                 first: start,
                 bound,
                 stop: to,
@@ -90,7 +95,10 @@ pub fn ahead(s: &[u8], from: usize, end: usize, so_far: ApproxLayout) -> Option<
         first: start,
         bound,
         stop: end,
-        last: inline(0, 0),
+        last: Inline {
+            worst: 0,
+            excess: 0,
+        },
     })
 }
 
@@ -98,8 +106,8 @@ pub fn ahead(s: &[u8], from: usize, end: usize, so_far: ApproxLayout) -> Option<
 pub fn behind(laid: ApproxLayout, last: ApproxLayout) -> ApproxLayout
     ensures { shape result ≡ behind_in (shape last) (shape laid) }
 {
-    if is_block(last) {
-        return append(laid, block_or_mixed(0, second(last)));
+    match last {
+        Inline { .. } => laid,
+        BlockOrMixed { post, .. } => append(laid, BlockOrMixed { pre: 0, post }),
     }
-    laid
 }

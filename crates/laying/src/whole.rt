@@ -6,7 +6,6 @@ ghost use Rattle.rules.specs.Answers.{layout_outcome};
 ghost use Rattle.laying.specs.Beside.{Clear};
 ghost use Rattle.laying.specs.Outcomes.{FirstWalk};
 
-use crate::answer::BAD;
 use crate::flex::approx_layout;
 use crate::marks::{Marks, WORDS, show_all};
 use rules::{MOST_BYTES, MOST_COLUMNS, Refusal};
@@ -21,8 +20,8 @@ fn tenths(width: usize) -> u16
     10 * (width as u16)
 }
 
-// Answers a layout where the file is accepted, with the marks of what its layout changes; and else that it is not, which the check then says exactly.
-pub fn first_walk(file: &[u8], width: usize, bits: &mut Marks) -> ApproxLayout
+// Answers a layout where the file is accepted, with the marks of what its layout changes; else none, and the check then says exactly why.
+pub fn first_walk(file: &[u8], width: usize, bits: &mut Marks) -> Option<ApproxLayout>
     requires { (length file.now ≤ most_bytes) × ((width ≤ most_columns) × Clear bits.old file.now 0) }
     ensures { FirstWalk width file.now result bits.new }
 {
@@ -40,8 +39,9 @@ pub fn layout_with_max_line_width(file: &mut [u8], width: usize) -> Result<usize
     if MOST_COLUMNS < width {
         return Err(Refusal::TooWide);
     }
+    // fixed memory: there is no heap
     let mut bits = [0u64; WORDS];
-    if first_walk(file, width, &mut bits) == BAD {
+    if first_walk(file, width, &mut bits).is_none() {
         return check(file);
     }
     Ok(show_all(file, &bits))

@@ -110,7 +110,7 @@ fn spacing(indent: usize, bare: bool, line: LineState) -> Brought
     }
 }
 
-// The line once the waiting break is written: a newline empties it.
+// The line once the waiting break is written: a newline empties it. `joined` is alike in shape alone: it answers a break.
 fn released(waiting: Option<Break>, line: LineState) -> LineState
     ensures { line_of result ≡ (rules.release {X = ℕ} (waiting_of waiting) (line_of line)).1 }
 {
@@ -207,7 +207,7 @@ fn joined(waiting: Option<Break>, b: Break) -> Break
     }
 }
 
-fn break_if_within_line(m: Machine, b: Break) -> Machine
+pub fn break_if_within_line(m: Machine, b: Break) -> Machine
     ensures { rules.step {X = ℕ} (machine_of m) (rules.break (break_of b)) ≡ ([], machine_of result) }
 {
     if ignored(m.indent, m.line) {
@@ -219,7 +219,7 @@ fn break_if_within_line(m: Machine, b: Break) -> Machine
     }
 }
 
-fn push_indent(m: Machine) -> Machine
+pub fn push_indent(m: Machine) -> Machine
     requires { m.indent < 2 ^ 32 }
     ensures { rules.step {X = ℕ} (machine_of m) rules.indent ≡ ([], machine_of result) }
 {
@@ -229,7 +229,7 @@ fn push_indent(m: Machine) -> Machine
     }
 }
 
-fn pop_indent(m: Machine) -> Machine
+pub fn pop_indent(m: Machine) -> Machine
     ensures { rules.step {X = ℕ} (machine_of m) rules.unindent ≡ ([], machine_of result) }
 {
     Machine {
@@ -243,6 +243,7 @@ pub fn step(m: Machine, op: LineOp, text: &[u8]) -> Stepped
     requires { m.indent < 2 ^ 32 }
     ensures { step_of result (own op text.now) ≡ rules.step (machine_of m) (operation op text.now) }
 {
+    // a `match` over an enum's cases: each says something of its own, and a table of closures would be no plainer
     match op {
         LineOp::PushIndent => without_item(None, push_indent(m)),
         LineOp::PopIndent => without_item(None, pop_indent(m)),

@@ -93,6 +93,7 @@ pub fn calm_ahead(s: &[u8], from: usize, to: usize, odd: u8) -> bool
     requires { (from ≤ to) × (to ≤ length s.now) }
     ensures { Says result (Calm odd s.now from to) }
 {
+    // the test that both looks behind it need
     if 16 < to - from || s.len() - from < 8 {
         return false;
     }

@@ -1,4 +1,5 @@
 // The text whose field stands at a place.
+// A tag stays a byte of the file (`verify::tables`).
 ghost use Rattle.std.specs.Prelude.{◌≡◌, ◌&&◌, eqb};
 ghost use Rattle.rules.specs.Walk.{is_text};
 ghost use Rattle.pairs.specs.Flat.{length_at_place};

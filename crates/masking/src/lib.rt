@@ -5,7 +5,6 @@
 pub mod finding;
 pub mod making;
 pub mod matching;
-pub mod numbers;
 pub mod pair;
 pub mod reading;
 pub mod tags;

@@ -1,4 +1,5 @@
 // What a field's tag says: whether its value is a text, whether it is fields, and where the next field stands.
+// A tag stays a byte of the file (`verify::tables`).
 ghost use Rattle.std.specs.Prelude.{◌≡◌, true};
 ghost use Rattle.rules.specs.Walk.{is_text};
 ghost use Rattle.rules.specs.Mask.{newlines, mask_byte};

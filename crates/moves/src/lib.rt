@@ -2,6 +2,12 @@
 
 #![tactic(auto)]
 
+ghost use Rattle.std.specs.Prelude.{◌≡◌, ℕ};
+ghost use Rattle.rules.specs.Result.{refused};
+ghost use Rattle.moves.specs.Stepped.{refusal};
+
+use answers::Numbered;
+
 // The steps. Those that put a text, a name or a style get it beside.
 #[derive(Debug, Clone, Copy, PartialEq, Eq)]
 pub enum Op {
@@ -87,6 +93,24 @@ pub enum Refusal {
     QuoteInAnchor(usize),
     BufferTooShort(usize),
     NotAllowed(usize),
+}
+
+impl From<Refusal> for Numbered {
+    ghost from_gives = { λ r n. refusal {A = ℕ} r ≡ refused n.number n.place };
+
+    #[tactic(auto, unfolding(crate::specs::Stepped::refusal))]
+    fn from(r: Refusal) -> Numbered {
+        let (number, place) = match r {
+            Refusal::TooLong(p) => (1, p),
+            Refusal::TooDeep(p) => (6, p),
+            Refusal::NotUtf8(p) => (7, p),
+            Refusal::BadStyle(p) => (8, p),
+            Refusal::QuoteInAnchor(p) => (9, p),
+            Refusal::BufferTooShort(needed) => (10, needed),
+            Refusal::NotAllowed(p) => (11, p),
+        };
+        Numbered { number, place }
+    }
 }
 
 // The numbers of a writer after a step, and the step's answer: the write position after it (of the last step, the file's length), or the refusal.

@@ -1,6 +1,6 @@
 -- A node by its tag, a 4 by its mark, an indented block, and the loops over fragments and nodes.
 use Rattle.std.specs.Prelude.{if◌then◌else◌}
-use Rattle.rules.proofs.Basics.{◌≡◌, refl, sym, ◌∙◌, List, ◌++◌, Bool, true, false, ℕ, zero, suc, ◌+◌, ◌-◌, ◌<◌, ◌≤◌, arith, eqb, length, get_or, take, drop, drop_of_length-le, ne_eqb, le-leb, lt-leb}
+use Rattle.rules.proofs.Basics.{◌≡◌, refl, sym, ◌∙◌, List, [], ◌∷◌, ◌++◌, Bool, true, false, ℕ, zero, suc, ◌+◌, ◌-◌, ◌<◌, ◌≤◌, arith, eqb, length, get_or, take, drop, drop_of_length-le, ne_eqb, le-leb, lt-leb}
 use Rattle.rules.specs.Limits.{most_bytes}
 use Rattle.rules.specs.Lines.{break, a_newline, indent, unindent}
 use Rattle.rules.specs.Marks.{marked}
@@ -8,11 +8,9 @@ use Rattle.pages.proofs.EachOf.{each_nil}
 use Rattle.pages.proofs.Places.{long, first, behind}
 use Rattle.pages.specs.OpsIn.{each_from, leaf_in, node_by, behind_fragment, fragments_by, indented_by, node_in, three_in, four_in, fragment_in}
 use Rattle.pens.specs.Ops.{Ops}
-use Rattle.pens.specs.States.{Unseen}
-use Rattle.pens.specs.Ran.{Rendered}
+use Rattle.pens.specs.Ran.{Ran, Rendered}
 use Rattle.pens.specs.declared.pen.Pen.{Pen}
 use Rattle.pens.proofs.Running.{nothing, and_then, indented}
-use Rattle.pens.proofs.Breaks.{unseen_ran, break_rendered}
 
 -- ---- a node
 
@@ -73,12 +71,11 @@ part_within base s at to a l h = omega (arith, long s at to l, h, a)
 
 -- ---- an indented block
 
-pub a_three : (ws : List ℕ) (left at : ℕ) (h : List ℕ) {p p' : Pen} {n n₁ n₂ : ℕ} → (left ≡ 0 → ⊥) → Unseen indent p.state n₁ → Unseen (break a_newline) n₁ n₂
-    → Rendered (fragments_by true (node_in (marked ws) (left - 1) true) at h) (record { page = p.page; state = n₂ }) p' → Unseen unindent p'.state n
-    → Rendered (three_in (marked ws) left at h) p (record { page = p'.page; state = n })
+pub a_three : (ws : List ℕ) (left at : ℕ) (h : List ℕ) {p p₁ p₂ p₃ p' : Pen} → (left ≡ 0 → ⊥) → Ran (indent ∷ []) p p₁ → Rendered (break a_newline ∷ []) p₁ p₂
+    → Rendered (fragments_by true (node_in (marked ws) (left - 1) true) at h) p₂ p₃ → Ran (unindent ∷ []) p₃ p' → Rendered (three_in (marked ws) left at h) p p'
 unfolding three_in indented_by
 a_three ws zero at h z d b r u = absurd (z refl)
-a_three ws (suc left) at h z d b r u = let e : suc left - 1 ≡ left = omega arith in indented (unseen_ran d) (and_then (break_rendered b) (rw e at r)) (unseen_ran u)
+a_three ws (suc left) at h z d b r u = let e : suc left - 1 ≡ left = omega arith in indented d (and_then b (rw e at r)) u
 
 -- ---- the loops
 

@@ -70,6 +70,7 @@ const AFTER_BODY: [u8; 16] = *b"</body>
 </html>
 ";
 
+// In each function here a `match` over an enum's cases: each says something of its own, and a table of closures would be no plainer.
 pub fn form_of(kind: Kind) -> Form
     ensures { result ≡ form_of kind }
 {
@@ -107,7 +108,7 @@ pub fn put_head(page: &mut Page<'_>, framing: Option<Framing>)
     }
 }
 
-// What stands behind them.
+// What stands behind them. Not one function with `put_head`: the document's bytes are outermost, so that the two have opposite orders.
 pub fn put_foot(page: &mut Page<'_>, framing: Option<Framing>)
     ensures put { Put page.old (foot framing) page.new }
     ensures same_page { page.new.bytes.ghost_name ≡ page.old.bytes.ghost_name }

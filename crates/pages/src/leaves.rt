@@ -1,4 +1,5 @@
 // Texts and anchors: nodes that are no blocks.
+// A tag stays a byte of the file (`verify::tables`).
 
 #![tactic(auto, unfolding(crate::specs::OpsIn::if_block_in, crate::specs::OpsIn::leaf_in, lines::specs::Said::break_of))]
 
@@ -13,8 +14,8 @@ use fields::parts::field_end;
 use fields::{Field, field_at};
 use lines::{Break, LineOp};
 use pens::bytes::render_bytes;
-use pens::pen::{Pen, interpret, interpret_mark, plain_part};
-use pens::state::{broken, is_plain};
+use pens::pen::{Pen, broken, interpret, interpret_mark, plain_part};
+use pens::state::is_plain;
 
 // The value of a 1: a 17, or a 16 and a 17.
 fn render_text(v: &[u8], pen: &mut Pen<'_>)
@@ -52,7 +53,7 @@ fn render_one(s: &[u8], start: usize, to: usize, pen: &mut Pen<'_>)
     requires { (indent_of pen.old < 2 ^ 15) × (start ≤ to) × (to ≤ length s.now) }
     ensures { Rendered (run_in (take (to - start) (drop start s.now))) pen.old pen.new }
 {
-    if is_plain(pen.state) {
+    if is_plain(pen.form) {
         if let Some(n) = text_from(&s[start..to]) {
             let from = start + n;
             if one_line(s, from, to) {
@@ -130,8 +131,8 @@ pub fn render_leaf(
     match tag {
         1 => render_one(s, from, to, pen),
         2 => render_anchor(&s[from..to], pen),
-        5 => pen.state = broken(pen.state, Break::Space),
-        6 => pen.state = broken(pen.state, Break::NewLine),
+        5 => broken(pen, Break::Space),
+        6 => broken(pen, Break::NewLine),
         7 => render_if_block(&s[from..to], pen, directly_in_block),
         _ => {}
     }

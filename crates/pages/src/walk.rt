@@ -10,8 +10,7 @@ use crate::leaves::render_leaf;
 use crate::marks::is_marked;
 use fields::parts::field_end;
 use lines::Break;
-use pens::pen::Pen;
-use pens::state::{broken, deeper, less_deep};
+use pens::pen::{Pen, broken, deeper, less_deep};
 
 // A node, whose whole field stands at..to.
 #[cycle(render_flexible_render_fragment_render_fragments_render_indented_render_inner_render_node)]
@@ -65,9 +64,10 @@ fn render_indented(s: &[u8], pen: &mut Pen<'_>, left: usize, marks: &[u64], base
     if left == 0 {
         return;
     }
-    pen.state = broken(deeper(pen.state), Break::NewLine);
+    deeper(pen);
+    broken(pen, Break::NewLine);
     render_fragments(s, pen, true, left - 1, marks, base);
-    pen.state = less_deep(pen.state);
+    less_deep(pen);
 }
 
 // Behind a fragment of an indented block the line ends.
@@ -75,7 +75,7 @@ fn end_fragment(pen: &mut Pen<'_>, directly_in_block: bool)
     ensures { Rendered (behind_fragment directly_in_block) pen.old pen.new }
 {
     if directly_in_block {
-        pen.state = broken(pen.state, Break::NewLine);
+        broken(pen, Break::NewLine);
     }
 }
 

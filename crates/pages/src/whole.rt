@@ -16,7 +16,7 @@ use crate::frame::{Kind, form_of, framing_of, put_foot, put_head};
 use crate::walk::render_fragment;
 use lines::start;
 use pens::pen::Pen;
-use pens::state::{Form, state_of};
+use pens::state::Form;
 use rules::{HTML_FRAME, HTML_PER_BYTE, MOST_BLOCKS, PLAIN_PER_BYTE, Refusal};
 use verify::walk::{check, check_strict};
 use writing::Page;
@@ -30,7 +30,8 @@ fn rendered<'p>(kind: Kind, file: &[u8], marks: &[u64], bytes: &'p mut [u8]) -> 
     let framing = framing_of(kind);
     let mut pen = Pen {
         page: Page { bytes, at: 0 },
-        state: state_of(start(), form_of(kind)),
+        machine: start(),
+        form: form_of(kind),
     };
     put_head(&mut pen.page, framing);
     render_fragment(file, 0, &mut pen, false, MOST_BLOCKS, marks, 0);
@@ -59,6 +60,7 @@ fn html_fits(n: usize, room: usize) -> bool
 fn surely_fits(kind: Kind, n: usize, room: usize) -> bool
     ensures { result ≡ surely_fits kind n room }
 {
+    // a `match` over an enum's cases: each says something of its own, and a table of closures would be no plainer
     match kind {
         Kind::Plain => n <= room / PLAIN_PER_BYTE,
         _ => html_fits(n, room),

@@ -1,6 +1,6 @@
 -- What stands before a part or a mark: its bytes, the line there, and what the operation then leaves.
 use Rattle.std.specs.Prelude.{if◌then◌else◌}
-use Rattle.rules.proofs.Basics.{◌≡◌, refl, sym, ap, ◌∙◌, List, [], ◌∷◌, ◌++◌, append-nil, Option, none, some, Bool, true, false, ℕ, zero, suc, ◌+◌, ◌-◌, ◌*◌, ◌/◌, ◌%◌, ◌<◌, ◌≤◌, arith, ltb, lt-ltb, le-ltb, length, replicate}
+use Rattle.rules.proofs.Basics.{◌≡◌, refl, sym, ap, ◌∙◌, List, [], ◌∷◌, ◌++◌, append-nil, Option, none, some, Bool, true, false, ℕ, ◌-◌, ◌*◌, ◌<◌, ◌≤◌, arith, ltb, lt-ltb, le-ltb, length, replicate}
 use Rattle.rules.specs.Lines as rules
 use Rattle.rules.specs.Lines.{Machine, Line, Break, LineOp, Item, making, release, levels, spacing, item, step, run, after, part}
 use Rattle.writing.specs.declared.Page.{Page}
@@ -8,13 +8,14 @@ use Rattle.writing.specs.Written.{Put}
 use Rattle.writing.proofs.Laws as writing
 use Rattle.lines.specs.declared.LineOp as O
 use Rattle.lines.specs.Said.{operation, copies, own}
-use Rattle.pens.specs.States.{line_numbered, waiting_numbered, form_numbered, machine_in, form_in, waiting_bytes, levels_bytes, line_bytes, line_then, ready_bytes, line_ready, on_line}
+use Rattle.lines.specs.declared.LineState as L
+use Rattle.lines.specs.Said.{line_of}
+use Rattle.pens.specs.States.{waiting_bytes, levels_bytes, line_bytes, line_then, ready_bytes, line_ready, on_line}
 use Rattle.pens.specs.Ran.{shown, machine, form, Ran, IsMark, Interpreted}
 use Rattle.pens.specs.declared.state.Form as F
 use Rattle.pens.specs.declared.pen.Pen.{Pen}
 use Rattle.pens.proofs.Running.{shown_append, shown_nothing}
 use Rattle.pens.proofs.Pens.{shown_making, shown_copies}
-use Rattle.pens.proofs.StateLaws.{indented_said}
 
 -- ---- the rules' items are these bytes
 
@@ -78,86 +79,38 @@ unfolding step copies
 part_item [] m h = absurd (omega arith)
 part_item (x ∷ v) m h = refl
 
-module _ (v : List ℕ) {p p' : Pen} {z : Page} {g : F.Form} (w : Put p.page (ready_bytes (machine p)) z) (q : g ≡ form p) where
-  pub mark_ready : (op : O.LineOp) {l : ℕ} → IsMark op → Put z (shown g (own op v)) p'.page → (line_numbered l ≡ line_ready (machine p)) × (l < 4294967296)
-      → (machine p' ≡ on_line (machine p) (line_numbered l)) × (form p' ≡ form p) → Interpreted op v p p'
-  mark_ready op i w' (e, h) (m, k) =
-      record { ran = item_ran (operation op v) (own op v) (λ l. l) (mark_item op v (machine p) i) w q w' (m ∙ ap (on_line (machine p)) e) k }
+module _ (v : List ℕ) {p p' : Pen} {z : Page} (w : Put p.page (ready_bytes (machine p)) z) where
+  pub mark_ready : (op : O.LineOp) (l : L.LineState) → IsMark op → Put z (shown (form p) (own op v)) p'.page → line_of l ≡ line_ready (machine p)
+      → machine p' ≡ on_line (machine p) (line_of l) → form p' ≡ form p → Interpreted op v p p'
+  mark_ready op l i w' e m k =
+      record { ran = item_ran (operation op v) (own op v) (λ l. l) (mark_item op v (machine p) i) w refl w' (m ∙ ap (on_line (machine p)) e) k }
 
-  pub part_ready : 0 < length v → Put z (shown g (copies v)) p'.page
-      → (machine p' ≡ on_line (machine p) (line_numbered 1)) × (form p' ≡ form p) → Interpreted O.TheVariants.AppendToLine v p p'
-  unfolding operation line_numbered
-  part_ready h w' (m, k) = record { ran = item_ran (part v) (copies v) (λ l. rules.has_text) (part_item v (machine p) h) w q w' m k }
+  pub part_ready : 0 < length v → Put z (shown (form p) (copies v)) p'.page → machine p' ≡ on_line (machine p) (line_of L.TheVariants.HasText) → form p' ≡ form p
+      → Interpreted O.TheVariants.AppendToLine v p p'
+  unfolding operation line_of
+  part_ready h w' m k = record { ran = item_ran (part v) (copies v) (λ l. rules.has_text) (part_item v (machine p) h) w refl w' m k }
 
 -- on a plain page its bytes are its own
 pub plain_ready : (v : List ℕ) {p p' : Pen} {q : Page} → Put p.page (ready_bytes (machine p)) q → form p ≡ F.TheVariants.Plain → 0 < length v
-    → Put q v p'.page → (machine p' ≡ on_line (machine p) (line_numbered 1)) × (form p' ≡ form p) → Interpreted O.TheVariants.AppendToLine v p p'
-plain_ready v w f h w' o = part_ready v w (sym f) h (rw (shown_copies v) w') o
+    → Put q v p'.page → machine p' ≡ on_line (machine p) (line_of L.TheVariants.HasText) → form p' ≡ form p → Interpreted O.TheVariants.AppendToLine v p p'
+plain_ready v w f h w' m k = part_ready v w h (rw (f, shown_copies v) w') m k
 
--- ---- a line's bytes, by its number
+-- ---- a line brought to the indent
 
-by_levels : (t l : ℕ) → (l ≡ 1 → ⊥) → line_bytes t (line_numbered l) ≡ levels_bytes (l - 2) t
-unfolding line_bytes line_numbered
-by_levels t zero o = refl
-by_levels t (suc zero) o = absurd (o refl)
-by_levels t (suc (suc k)) o = let e : k ≡ suc (suc k) - 2 = omega arith in ap (λ (k : ℕ). levels_bytes k t) e
+pub fewer_levels : (k t : ℕ) {p q : Page} → k ≤ t → Put p (replicate (2 * (t - k)) 32) q → Put p (levels_bytes k t) q
+unfolding levels_bytes
+fewer_levels k t h w = rw (le-ltb t k h) w
 
-module _ (t l : ℕ) {p : Page} where
-  pub at_text : l ≡ 1 → Put p (line_bytes t (line_numbered l)) p
-  unfolding line_bytes line_numbered
-  at_text e = rw e writing.put_nothing
+pub too_many : (k t : ℕ) {p q r : Page} → t < k → Put p (10 ∷ []) q → Put q (replicate (2 * t) 32) r → Put p (levels_bytes k t) r
+unfolding levels_bytes
+too_many k t h w w' = rw (lt-ltb t k h) (writing.put_then w w')
 
-  module _ {r : Page} (o : l ≡ 1 → ⊥) where
-    pub no_levels : l < 3 → Put p (replicate (2 * t) 32) r → Put p (line_bytes t (line_numbered l)) r
-    unfolding levels_bytes
-    no_levels h w = let q : 2 * t ≡ 2 * (t - (l - 2)) = omega (arith, h) in rw (by_levels t l o, le-ltb t (l - 2) (omega (arith, h)), ← q) w
-
-    pub fewer_levels : 3 ≤ l → l ≤ t + 2 → Put p (replicate (2 * (t + 2 - l)) 32) r → Put p (line_bytes t (line_numbered l)) r
-    unfolding levels_bytes
-    fewer_levels g h w = let q : 2 * (t + 2 - l) ≡ 2 * (t - (l - 2)) = omega (arith, h, g) in rw (by_levels t l o, le-ltb t (l - 2) (omega (arith, h)), ← q) w
-
-  pub too_many : {q r : Page} → t + 2 < l → Put p (10 ∷ []) q → Put q (replicate (2 * t) 32) r
-      → Put p (line_bytes t (line_numbered l)) r
-  unfolding levels_bytes
-  too_many h w w' = rw (by_levels t l (λ o. omega (arith, o, h)), lt-ltb t (l - 2) (omega (arith, h))) (writing.put_then w w')
-
--- ---- the line there
-
--- a line without text is brought to the indent
-spaced_line : (t l : ℕ) → (l ≡ 1 → ⊥) → rules.indented_by t ≡ (spacing {X = ℕ} t false (line_numbered l)).1
-unfolding spacing line_numbered rules.target
-spaced_line t zero o = refl
-spaced_line t (suc zero) o = absurd (o refl)
-spaced_line t (suc (suc k)) o = refl
-
-module _ (n : ℕ) where
-  module _ {l : ℕ} (e : line_numbered l ≡ line_then (machine_in n)) where
-    pub has_its_text : l ≡ 1 → (line_numbered 1 ≡ line_ready (machine_in n)) × (1 < 4294967296)
-    unfolding line_ready line_numbered spacing
-    has_its_text o = (ap (λ (x : Line). (spacing {X = ℕ} (machine_in n).level false x).1) (rw o at e), omega arith)
-
-    pub brought : (l ≡ 1 → ⊥) → (line_numbered (n % 65536 + 2) ≡ line_ready (machine_in n)) × (n % 65536 + 2 < 4294967296)
-    unfolding line_ready machine_in
-    brought o = (sym (indented_said (n % 65536 + 2) (λ z. omega (arith, z)) (λ z. omega (arith, z)) refl) ∙ spaced_line (n % 65536) l o ∙ ap (λ (x : Line). (spacing {X = ℕ} (n % 65536) false x).1) e, omega arith)
-
-pub both_ready : (n l : ℕ) {p q r : Page} {w : Option Break} → w ≡ (machine_in n).waiting → Put p (waiting_bytes w) q → line_numbered l ≡ line_then (machine_in n)
-    → Put q (line_bytes (n % 65536) (line_numbered l)) r → Put p (ready_bytes (machine_in n)) r
-unfolding ready_bytes machine_in
-both_ready n l q w e w' = writing.put_then (rw q at w) (rw e at w')
-
--- another line's number in its place
-pub placed : (n l : ℕ) → (machine_in (l * 1048576 + n % 262144) ≡ on_line (machine_in n) (line_numbered l)) × (form_in (l * 1048576 + n % 262144) ≡ form_in n)
-unfolding machine_in form_in on_line waiting_numbered
-placed n l =
-    let n' = l * 1048576 + n % 262144 in
-    let line : n' / 1048576 ≡ l = omega arith in
-    let over_waiting : n' / 262144 ≡ l * 4 = omega arith in
-    let waits : (n' / 262144) % 4 ≡ 0 = rw over_waiting (omega arith) in
-    let low : n % 262144 ≡ (n / 65536) % 4 * 65536 + n % 65536 = omega arith in
-    let level : n' % 65536 ≡ n % 65536 = omega (arith, low) in
-    let over_form : n' / 65536 ≡ l * 16 + (n / 65536) % 4 = omega (arith, low) in
-    let f : (n' / 65536) % 4 ≡ (n / 65536) % 4 = rw over_form (omega arith) in
-    (λ j. record { level = level j; line = line_numbered (line j); waiting = waiting_numbered (waits j) }, ap form_numbered f)
+-- it has its levels then
+pub brought : (l : L.LineState) (m : Machine) → line_of l ≡ line_then m → (l ≡ L.TheVariants.HasText → ⊥) → rules.indented_by m.level ≡ line_ready m
+unfolding line_ready line_of spacing rules.target
+brought L.TheVariants.Empty m e n = ap (λ (x : Line). (spacing {X = ℕ} m.level false x).1) e
+brought (L.TheVariants.Indented k) m e n = ap (λ (x : Line). (spacing {X = ℕ} m.level false x).1) e
+brought L.TheVariants.HasText m e n = absurd (n refl)
 
 -- ---- a part without bytes
 

@@ -1,7 +1,8 @@
--- No second answer satisfies the contracts of this crate. A pen is fixed by what it says: a waiting newline has two numbers, and so has the strict form.
+-- No second answer satisfies the contracts of this crate. A pen is fixed by what it says.
 use Rattle.rules.proofs.Basics.{◌≡◌, sym, ◌∙◌, List, ℕ}
 use Rattle.lines.specs.declared.LineOp.{LineOp}
 use Rattle.writing.proofs.Determined.{put_unique}
+use Rattle.lines.proofs.Determined.{machine_unique}
 use Rattle.pens.specs.Ops.{Ops}
 use Rattle.pens.specs.Ran.{machine, form, Ran, Interpreted, Rendered}
 use Rattle.pens.specs.declared.pen.Pen.{Pen}
@@ -11,6 +12,9 @@ pub record Same (p : Pen) (q : Pen) : Type 0 where
   pub machines : machine p ≡ machine q
   pub forms : form p ≡ form q
   pub pages : p.page ≡ q.page
+
+pub same_pen : {p q : Pen} → Same p q → p ≡ q
+same_pen {p} {q} s = λ i. record { page = s.pages i; machine = machine_unique p.machine q.machine s.machines i; form = s.forms i }
 
 module _ {p q r : Pen} where
   pub ran_unique : {os : Ops} → Ran os p q → Ran os p r → Same q r

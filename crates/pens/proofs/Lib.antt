@@ -1,8 +1,8 @@
 -- Laws that the proofs of the code cite.
-pub mod StateLaws
 pub mod Running
 pub mod Breaks
 pub mod Pens
+pub mod Indents
 pub mod BeforeItems
 pub mod NewLines
 pub mod Quiet

@@ -1,5 +1,5 @@
 -- Running operations: one after the other, with the indent kept or not.
-use Rattle.rules.proofs.Basics.{◌≡◌, refl, sym, ap, ◌∙◌, List, [], ◌∷◌, ◌++◌, append_assoc, ℕ, suc, length}
+use Rattle.rules.proofs.Basics.{◌≡◌, refl, sym, ap, ◌∙◌, List, [], ◌∷◌, ◌++◌, append_assoc, ℕ, suc}
 use Prim.Native.Nat.{pred}
 use Rattle.rules.specs.Lines as rules
 use Rattle.rules.specs.Lines.{Machine, Out, Item, LineOp, step, run, after, item, ignored}
@@ -103,7 +103,7 @@ module _ {p p' : Pen} where
   quietly {op} {v} f q = record { ran = f.ran; indent_kept = indent_then f.ran ∙ level_kept (machine p) op v q }
 
   -- and the one that makes it deeper
-  deeper : Ran (rules.indent ∷ []) p p' → indent_of p' ≡ suc (indent_of p)
+  pub deeper : Ran (rules.indent ∷ []) p p' → indent_of p' ≡ suc (indent_of p)
   unfolding step indent_of
   deeper f = indent_then f
 

@@ -1,6 +1,7 @@
 -- A text at the margin of a plain page: its bytes are all that shows, and the last one says whether its line has text.
-use Rattle.std.specs.Prelude.{if◌then◌else◌}
-use Rattle.rules.proofs.Basics.{◌≡◌, refl, sym, ap, ◌∙◌, List, [], ◌∷◌, ◌++◌, Bool, true, false, not, none, ℕ, zero, suc, ◌+◌, ◌/◌, ◌%◌, arith, eqb→eq, eq-eqb, ne_eqb, length, get_or}
+use Rattle.std.proofs.lemmas.Bool.{false≢true}
+use Rattle.std.specs.Prelude.{None, if◌then◌else◌}
+use Rattle.rules.proofs.Basics.{◌≡◌, refl, sym, ap, ◌∙◌, List, [], ◌∷◌, ◌++◌, Bool, true, false, not, none, ℕ, zero, suc, ◌+◌, arith, eqb→eq, eq-eqb, ne_eqb, length, get_or}
 use Rattle.rules.specs.Bytes.{newline}
 use Rattle.rules.specs.Layout.{parts}
 use Rattle.rules.specs.Lines.{part, new_line, later, text_ops, Line, empty, has_text, Machine, start, Item, making, release, spacing, levels, target, item, step, run, after}
@@ -8,10 +9,11 @@ use Rattle.rules.specs.Plain.{chars, fill}
 use Rattle.writing.specs.declared.Page.{Page}
 use Rattle.writing.specs.Written.{Put}
 use Rattle.writing.proofs.Laws as writing
-use Rattle.lines.specs.Said.{copies}
+use Rattle.lines.specs.Said.{line_of, waiting_of, machine_of, copies}
 use Rattle.pens.specs.Ops.{Ops}
-use Rattle.pens.specs.Ran.{shown, indent_of, Rendered}
-use Rattle.pens.specs.States.{line_numbered, waiting_numbered, form_numbered, machine_in, form_in, at_margin}
+use Rattle.pens.specs.Ran.{shown, machine, form, indent_of, Rendered}
+use Rattle.lines.specs.declared.LineState as L
+use Rattle.pens.specs.States.{plain, at_margin}
 use Rattle.pens.specs.declared.state.Form as F
 use Rattle.pens.specs.declared.pen.Pen.{Pen}
 use Rattle.pens.proofs.Quiet.{part_step}
@@ -65,18 +67,18 @@ as_it_stands b (x ∷ s) = byte_before (newline x) b x (parts newline s).0 (part
 
 -- ---- the state that it leaves
 
-abbrev Leaves : ℕ → List ℕ → Type 0
-Leaves n v = (machine_in n ≡ after start (text_ops newline v)) × (form_in n ≡ F.TheVariants.Plain)
+abbrev Leaves : L.LineState → List ℕ → Type 0
+Leaves l v = machine_of (record { indent = 0; line = l; waiting = None }) ≡ after start (text_ops newline v)
 
-leaves_empty : (v : List ℕ) → text_behind false v ≡ false → Leaves 0 v
-unfolding start machine_in form_in line_numbered waiting_numbered form_numbered line_at
-leaves_empty v e = (sym ((as_it_stands false v).0 ∙ ap at_zero e), refl)
+leaves_empty : (v : List ℕ) → text_behind false v ≡ false → Leaves L.TheVariants.Empty v
+unfolding start machine_of line_of waiting_of line_at
+leaves_empty v e = sym ((as_it_stands false v).0 ∙ ap at_zero e)
 
-leaves_text : (v : List ℕ) → text_behind false v ≡ true → Leaves 1048576 v
-unfolding start machine_in form_in line_numbered waiting_numbered form_numbered line_at
-leaves_text v e = (sym ((as_it_stands false v).0 ∙ ap at_zero e), refl)
+leaves_text : (v : List ℕ) → text_behind false v ≡ true → Leaves L.TheVariants.HasText v
+unfolding start machine_of line_of waiting_of line_at
+leaves_text v e = sym ((as_it_stands false v).0 ∙ ap at_zero e)
 
-pub no_bytes : (v : List ℕ) → length v ≡ 0 → Leaves 0 v
+pub no_bytes : (v : List ℕ) → length v ≡ 0 → Leaves L.TheVariants.Empty v
 unfolding text_behind
 no_bytes [] e = leaves_empty [] refl
 no_bytes (x ∷ v) e = absurd (omega arith)
@@ -90,34 +92,33 @@ by_last b (x ∷ y ∷ v) zero e = absurd (omega arith)
 by_last b (x ∷ y ∷ v) (suc i) e = by_last (not (newline x)) (y ∷ v) i (omega arith)
 
 module _ (v : List ℕ) (i : ℕ) (h : i + 1 ≡ length v) where
-  pub ends_in_newline : get_or v i 0 ≡ 10 → Leaves 0 v
+  pub ends_in_newline : get_or v i 0 ≡ 10 → Leaves L.TheVariants.Empty v
   unfolding newline
   ends_in_newline e = leaves_empty v (by_last false v i h ∙ ap not (eq-eqb _ _ e))
 
-  pub ends_in_text : (get_or v i 0 ≡ 10 → ⊥) → Leaves 1048576 v
+  pub ends_in_text : (get_or v i 0 ≡ 10 → ⊥) → Leaves L.TheVariants.HasText v
   unfolding newline
   ends_in_text n = leaves_text v (by_last false v i h ∙ ap not (ne_eqb _ _ n))
 
 -- ---- a new line and a text on it
 
-margin_says : (n : ℕ) → at_margin n ≡ true → ((machine_in n).level ≡ 0) × (form_in n ≡ F.TheVariants.Plain)
-unfolding at_margin machine_in form_in form_numbered
-margin_says n e =
-    let q : n % 262144 ≡ 0 = eqb→eq (n % 262144) 0 (rw e tt) in
-    let f : (n / 65536) % 4 ≡ 0 = omega (arith, q) in
-    (omega (arith, q), rw f refl)
+margin_says : (f : F.Form) (m : Machine) → at_margin f m ≡ true → (m.level ≡ 0) × (f ≡ F.TheVariants.Plain)
+unfolding at_margin plain
+margin_says F.TheVariants.Plain m e = (eqb→eq m.level 0 (rw e tt), refl)
+margin_says F.TheVariants.Html m e = absurd (false≢true e)
+margin_says F.TheVariants.Strict m e = absurd (false≢true e)
 
-pub verbatim : (v : List ℕ) {p p' : Pen} {q : Page} → at_margin p.state ≡ true → Put p.page (10 ∷ []) q
-    → Put q v p'.page → Leaves p'.state v → Rendered (new_line ∷ text_ops newline v) p p'
+pub verbatim : (v : List ℕ) {p p' : Pen} {q : Page} → at_margin (form p) (machine p) ≡ true → Put p.page (10 ∷ []) q
+    → Put q v p'.page → machine p' ≡ after start (text_ops newline v) → form p' ≡ form p → Rendered (new_line ∷ text_ops newline v) p p'
 unfolding after run step making shown chars fill indent_of start line_at
-verbatim v {p} e w w' (m', f') =
-    let (l, f) = margin_says p.state e in
+verbatim v {p} e w w' m' f' =
+    let (l, f) = margin_says (form p) (machine p) e in
     let from : ℕ → Machine = λ n. record { level = n; line = empty; waiting = none } in
     record {
       ran = record {
         machine_then = m' ∙ sym (ap (λ n. after (from n) (text_ops newline v)) l);
         put = rw (f, l, (as_it_stands false v).1) (writing.put_then w w');
-        form_kept = f' ∙ sym f;
+        form_kept = f';
       };
       indent_kept = ap (λ (m : Machine). m.level) (m' ∙ (as_it_stands false v).0) ∙ sym l;
     }

@@ -5,11 +5,10 @@ use Rattle.rules.specs.Plain.{chars, fill}
 use Rattle.rules.specs.Html.{escape, strict_escape, items_html}
 use Rattle.rules.specs.Answers.{itself}
 use Rattle.writing.specs.Written.{Put}
-use Rattle.lines.specs.Said.{operation}
+use Rattle.lines.specs.Said.{machine_of, operation}
 use Rattle.lines.specs.declared.LineOp.{LineOp}
 use Rattle.lines.specs.declared.LineOp.TheVariants as O
 use Rattle.pens.specs.Ops.{Ops}
-use Rattle.pens.specs.States.{machine_in, form_in}
 use Rattle.pens.specs.declared.state.Form as F
 use Rattle.pens.specs.declared.pen.Pen as Code
 
@@ -20,10 +19,10 @@ shown F.TheVariants.Html is = fill itself (items_html escape is)
 shown F.TheVariants.Strict is = fill itself (items_html strict_escape is)
 
 abbrev pub machine : Code.Pen → Machine
-machine p = machine_in p.state
+machine p = machine_of p.machine
 
 abbrev pub form : Code.Pen → F.Form
-form p = form_in p.state
+form p = p.form
 
 unfoldable pub indent_of : Code.Pen → ℕ
 indent_of p = (machine p).level

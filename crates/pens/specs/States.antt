@@ -1,58 +1,35 @@
--- What a pen's number says: the line machine and the form.
-use Rattle.std.specs.Prelude.{◌≡◌, List, [], ◌∷◌, ◌++◌, Bool, false, ℕ, zero, suc, ◌+◌, ◌-◌, ◌*◌, ◌/◌, ◌%◌, ◌^◌, ◌<◌, eqb, ltb, replicate, if◌then◌else◌}
+-- What is asked of a pen's form and its line machine, and what stands before a part or a mark.
+use Rattle.std.specs.Prelude.{◌≡◌, List, [], ◌∷◌, ◌++◌, Bool, true, false, ◌&&◌, ℕ, ◌-◌, ◌*◌, eqb, ltb, replicate, if◌then◌else◌}
 use Rattle.std.proofs.Math.Option.{Option, none, some}
 use Rattle.rules.specs.Lines as rules
 use Rattle.pens.specs.declared.state.Form as F
 
-unfoldable pub line_numbered : ℕ → rules.Line
-line_numbered zero = rules.empty
-line_numbered (suc zero) = rules.has_text
-line_numbered (suc (suc k)) = rules.indented_by k
+unfoldable pub plain : F.Form → Bool
+plain F.TheVariants.Plain = true
+plain F.TheVariants.Html = false
+plain F.TheVariants.Strict = false
 
-unfoldable pub waiting_numbered : ℕ → Option rules.Break
-waiting_numbered zero = none
-waiting_numbered (suc zero) = some rules.a_space
-waiting_numbered (suc (suc k)) = some rules.a_newline
+unfoldable pub has_text : rules.Line → Bool
+has_text rules.empty = false
+has_text (rules.indented_by k) = false
+has_text rules.has_text = true
 
-unfoldable pub form_numbered : ℕ → F.Form
-form_numbered zero = F.TheVariants.Plain
-form_numbered (suc zero) = F.TheVariants.Html
-form_numbered (suc (suc k)) = F.TheVariants.Strict
-
--- the indent below 2 ^ 16, then the form, the waiting break, the line
-unfoldable pub machine_in : ℕ → rules.Machine
-machine_in n = record { level = n % 65536; line = line_numbered (n / 1048576); waiting = waiting_numbered ((n / 262144) % 4) }
-
-unfoldable pub form_in : ℕ → F.Form
-form_in n = form_numbered ((n / 65536) % 4)
+unfoldable pub none_waits : Option rules.Break → Bool
+none_waits none = true
+none_waits (some b) = false
 
 -- a plain page, a line with text, and no break that waits: nothing shows of a mark, nor stands before it
-unfoldable pub quiet : ℕ → Bool
-quiet n = eqb (n / 65536) 16
+unfoldable pub quiet : F.Form → rules.Machine → Bool
+quiet f m = plain f && (has_text m.line && none_waits m.waiting)
 
 -- a plain page, and no indent
-unfoldable pub at_margin : ℕ → Bool
-at_margin n = eqb (n % 262144) 0
-
--- the levels of a line that has no text yet
-unfoldable pub levels_of : rules.Line → ℕ
-levels_of rules.empty = 0
-levels_of (rules.indented_by k) = k
-levels_of rules.has_text = 0
-
--- a line that a number has room for
-pub record Fits (l : rules.Line) : Type 0 where
-  pub fits : levels_of l + 2 < 2 ^ 44
-
--- an operation of which nothing shows leaves n' of n
-pub record Unseen (o : rules.LineOp ℕ) (n n' : ℕ) : Type 0 where
-  pub stepped : rules.step (machine_in n) o ≡ ([], machine_in n')
-  pub form_kept : form_in n' ≡ form_in n
+unfoldable pub at_margin : F.Form → rules.Machine → Bool
+at_margin f m = plain f && eqb m.level 0
 
 -- an empty line, where no break waits
-pub record Fresh (n : ℕ) : Type 0 where
-  pub line : (machine_in n).line ≡ rules.empty
-  pub waits : (machine_in n).waiting ≡ none
+pub record Fresh (m : rules.Machine) : Type 0 where
+  pub line : m.line ≡ rules.empty
+  pub waits : m.waiting ≡ none
 
 -- ---- before a part or a mark
 

@@ -4,19 +4,20 @@
 
 ghost use Rattle.std.specs.Prelude.{◌≡◌, [], ◌∷◌, ◌<◌, ◌^◌, length, if◌then◌else◌};
 ghost use Rattle.writing.specs.Written.{Put};
-ghost use Rattle.lines.specs.Said.{before_bytes, copies, own};
+ghost use Rattle.lines.specs.Said.{before_bytes, break_of, copies, own};
 ghost use Rattle.lines.specs.declared.LineOp.TheVariants as LineOp;
 ghost use Rattle.pens.specs.declared.state.Form.TheVariants as Form;
 ghost use Rattle.pens.specs.States.{Fresh};
-ghost use Rattle.pens.specs.Ran.{shown, form, indent_of, IsMark, Interpreted};
+ghost use Rattle.rules.specs.Lines.{indent, unindent, break};
+ghost use Rattle.pens.specs.Ran.{shown, machine, form, indent_of, IsMark, Ran, Interpreted, Rendered};
 
-use crate::ready::{put_break, put_ready, put_ready_if_any};
-use crate::state::{
-    EMPTY, FORM, Form, TEXT, form_in, line_ready, machine_in, nothing_shows, on_line, state_of,
-};
+use crate::ready::{put_break, put_indent, put_ready};
+use crate::state::{Form, line_ready, nothing_shows, on_line};
 use escaping::escapes::put_escaped;
 use escaping::strict::put_strict;
-use lines::{Before, LineOp, step};
+use lines::{
+    Before, Break, LineOp, LineState, Machine, break_if_within_line, pop_indent, push_indent, step,
+};
 use markup::anchors::{put_close_anchor, put_open_anchor};
 use markup::tags::{put_close_tag, put_open_tag};
 use styles::read_styles;
@@ -26,7 +27,8 @@ use writing::Page;
 #[derive(Drop)]
 pub struct Pen<'p> {
     pub page: Page<'p>,
-    pub state: usize,
+    pub machine: Machine,
+    pub form: Form,
 }
 
 // A newline, where there is one.
@@ -61,6 +63,7 @@ fn put_html(page: &mut Page<'_>, op: LineOp, text: &[u8])
     requires { op ≡ LineOp.AppendToLine → ⊥ }
     ensures { Put page.old (shown Form.Html (own op text.now)) page.new }
 {
+    // a `match` over an enum's cases: each says something of its own, and a table of closures would be no plainer
     match op {
         LineOp::PushIndent => {}
         LineOp::PopIndent => {}
@@ -75,7 +78,7 @@ fn put_html(page: &mut Page<'_>, op: LineOp, text: &[u8])
     }
 }
 
-// A mark's tags, of which nothing shows on a plain page.
+// A mark's tags, of which nothing shows on a plain page. A `match`, here and below, as in `put_html`.
 fn put_mark(page: &mut Page<'_>, form: Form, op: LineOp, text: &[u8])
     requires { op ≡ LineOp.AppendToLine → ⊥ }
     ensures { Put page.old (shown form (own op text.now)) page.new }
@@ -120,11 +123,10 @@ pub fn interpret(pen: &mut Pen<'_>, op: LineOp, text: &[u8])
     requires { indent_of pen.old < 2 ^ 15 }
     ensures { Interpreted op text.now pen.old pen.new }
 {
-    let s = step(machine_in(pen.state), op, text);
+    let s = step(pen.machine, op, text);
     put_before(&mut pen.page, s.before);
-    let form = form_in(pen.state);
-    put_own(&mut pen.page, form, op, text);
-    pen.state = state_of(s.machine, form);
+    put_own(&mut pen.page, pen.form, op, text);
+    pen.machine = s.machine;
 }
 
 // One operation that opens or closes a style or an anchor. On a plain page, on a line with text where no break waits, nothing stands before it
@@ -133,12 +135,13 @@ pub fn interpret_mark(pen: &mut Pen<'_>, op: LineOp, text: &[u8])
     requires { IsMark op }
     ensures { Interpreted op text.now pen.old pen.new }
 {
-    if nothing_shows(pen.state) {
+    if nothing_shows(pen.form, &pen.machine) {
         return;
     }
-    put_ready(&mut pen.page, pen.state);
-    put_mark(&mut pen.page, form_in(pen.state), op, text);
-    pen.state = on_line(pen.state, line_ready(pen.state));
+    put_ready(&mut pen.page, &pen.machine);
+    put_mark(&mut pen.page, pen.form, op, text);
+    let line = line_ready(&pen.machine);
+    on_line(&mut pen.machine, line);
 }
 
 // A part of a text that has bytes.
@@ -146,16 +149,16 @@ fn begin_part(pen: &mut Pen<'_>, text: &[u8])
     requires { 0 < length text.now }
     ensures { Interpreted LineOp.AppendToLine text.now pen.old pen.new }
 {
-    put_ready(&mut pen.page, pen.state);
-    put_part(&mut pen.page, form_in(pen.state), text);
-    pen.state = on_line(pen.state, TEXT);
+    put_ready(&mut pen.page, &pen.machine);
+    put_part(&mut pen.page, pen.form, text);
+    on_line(&mut pen.machine, LineState::HasText);
 }
 
 // A part of a text. On a plain page, on a line with text where no break waits, its bytes are all that shows; without bytes it does nothing.
 pub fn interpret_part(pen: &mut Pen<'_>, text: &[u8])
     ensures { Interpreted LineOp.AppendToLine text.now pen.old pen.new }
 {
-    if nothing_shows(pen.state) {
+    if nothing_shows(pen.form, &pen.machine) {
         return pen.page.put_bytes(text);
     }
     if text.is_empty() {
@@ -169,9 +172,9 @@ pub fn plain_part(pen: &mut Pen<'_>, text: &[u8])
     requires { (form pen.old ≡ Form.Plain) × (0 < length text.now) }
     ensures { Interpreted LineOp.AppendToLine text.now pen.old pen.new }
 {
-    put_ready_if_any(&mut pen.page, pen.state);
+    put_ready(&mut pen.page, &pen.machine);
     pen.page.put_bytes(text);
-    pen.state = on_line(pen.state, TEXT);
+    on_line(&mut pen.machine, LineState::HasText);
 }
 
 // A new line. A break that waits is dropped.
@@ -179,18 +182,40 @@ pub fn begin_line(pen: &mut Pen<'_>)
     ensures { Interpreted LineOp.StartNewLine [] pen.old pen.new }
 {
     pen.page.put(b'\n');
-    pen.state = on_line(pen.state, EMPTY);
+    on_line(&mut pen.machine, LineState::Empty);
 }
 
 // A part of a text on an empty line: only the indent stands before it.
 pub fn line_part(pen: &mut Pen<'_>, text: &[u8])
-    requires { Fresh pen.old.state }
+    requires { Fresh (machine pen.old) }
     ensures { Interpreted LineOp.AppendToLine text.now pen.old pen.new }
 {
     if text.is_empty() {
         return;
     }
-    pen.page.put_spaces(2 * (pen.state % FORM));
-    put_part(&mut pen.page, form_in(pen.state), text);
-    pen.state = on_line(pen.state, TEXT);
+    put_indent(&mut pen.page, pen.machine.indent);
+    put_part(&mut pen.page, pen.form, text);
+    on_line(&mut pen.machine, LineState::HasText);
+}
+
+// A break waits, unless one waits that is as much, or it does not count.
+pub fn broken(pen: &mut Pen<'_>, b: Break)
+    ensures { Rendered (break (break_of b) ∷ []) pen.old pen.new }
+{
+    pen.machine = break_if_within_line(pen.machine, b);
+}
+
+// The indent is one level deeper.
+pub fn deeper(pen: &mut Pen<'_>)
+    requires { indent_of pen.old < 2 ^ 15 }
+    ensures { Ran (indent ∷ []) pen.old pen.new }
+{
+    pen.machine = push_indent(pen.machine);
+}
+
+// It is one level less.
+pub fn less_deep(pen: &mut Pen<'_>)
+    ensures { Ran (unindent ∷ []) pen.old pen.new }
+{
+    pen.machine = pop_indent(pen.machine);
 }

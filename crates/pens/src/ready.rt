@@ -1,16 +1,14 @@
-// What stands before a part or a mark, by the pen's number: the break that waits, then what brings a line without text to the indent.
+// What stands before a part or a mark: the break that waits, then what brings a line without text to the indent.
 
-#![tactic(auto, unfolding(crate::specs::States::waiting_bytes, lines::specs::Said::waiting_of, lines::specs::Said::break_of))]
+#![tactic(auto, unfolding(crate::specs::States::waiting_bytes, crate::specs::States::levels_bytes, crate::specs::States::line_bytes, lines::specs::Said::waiting_of, lines::specs::Said::break_of, lines::specs::Said::line_of))]
 
-ghost use Rattle.std.specs.Prelude.{◌≡◌, true, [], ◌∷◌, ◌<◌, ◌^◌};
+ghost use Rattle.std.specs.Prelude.{◌≡◌, ◌*◌, replicate};
 ghost use Rattle.writing.specs.Written.{Put};
-ghost use Rattle.lines.specs.Said.{waiting_of};
-ghost use Rattle.pens.specs.States.{line_numbered, machine_in, waiting_bytes, line_bytes, ready_bytes};
+ghost use Rattle.lines.specs.Said.{line_of, waiting_of, machine_of};
+ghost use Rattle.pens.specs.States.{waiting_bytes, levels_bytes, line_bytes, ready_bytes};
 
-use crate::state::{
-    FORM, LINE, NEWLINE, SPACE, TEXT, WAITING, line_then, nothing_shows, waiting_in,
-};
-use lines::Break;
+use crate::state::line_then;
+use lines::{Break, LineState, Machine};
 use writing::Page;
 
 // A break that waits.
@@ -24,58 +22,39 @@ pub(crate) fn put_break(page: &mut Page<'_>, waiting: Option<Break>)
     }
 }
 
-// A line without text, by its number, is brought to the indent; one that has too many levels is left for a new one.
-fn put_levels(page: &mut Page<'_>, line: usize, indent: usize)
-    requires { indent < 2 ^ 16 }
-    ensures { Put page.old (line_bytes indent (line_numbered line)) page.new }
+// The spaces of some levels. The product saturates where no page would hold it.
+pub(crate) fn put_indent(page: &mut Page<'_>, levels: usize)
+    ensures { Put page.old (replicate (2 * levels) 32) page.new }
 {
-    if line == TEXT {
-        return;
-    }
-    if line < 3 {
-        return page.put_spaces(2 * indent);
-    }
-    if line <= indent + 2 {
-        return page.put_spaces(2 * (indent + 2 - line));
+    page.put_spaces(levels.saturating_mul(2));
+}
+
+// From k levels to the indent: a line that has too many is left for a new one.
+fn put_from(page: &mut Page<'_>, k: usize, indent: usize)
+    ensures { Put page.old (levels_bytes k indent) page.new }
+{
+    if k <= indent {
+        return put_indent(page, indent - k);
     }
     page.put(b'\n');
-    page.put_spaces(2 * indent);
+    put_indent(page, indent);
+}
+
+// A line without text is brought to the indent.
+fn put_levels(page: &mut Page<'_>, line: LineState, indent: usize)
+    ensures { Put page.old (line_bytes indent (line_of line)) page.new }
+{
+    match line {
+        LineState::Empty => put_indent(page, indent),
+        LineState::Indented(k) => put_from(page, k, indent),
+        LineState::HasText => {}
+    }
 }
 
 // Both.
-pub fn put_ready(page: &mut Page<'_>, state: usize)
-    ensures { Put page.old (ready_bytes (machine_in state)) page.new }
+pub fn put_ready(page: &mut Page<'_>, m: &Machine)
+    ensures { Put page.old (ready_bytes (machine_of m.now)) page.new }
 {
-    put_break(page, waiting_in(state));
-    put_levels(page, line_then(state), state % FORM);
-}
-
-// A line with text on a plain page, and a space waits.
-fn only_a_space(state: usize) -> bool
-    ensures { result ≡ true → ready_bytes (machine_in state) ≡ 32 ∷ [] }
-{
-    state / FORM == (LINE + SPACE * WAITING) / FORM
-}
-
-// The same, without an indent, and a newline waits.
-fn only_a_newline(state: usize) -> bool
-    ensures { result ≡ true → ready_bytes (machine_in state) ≡ 10 ∷ [] }
-{
-    state == LINE + NEWLINE * WAITING
-}
-
-// What `put_ready` writes, where it is most often nothing or one byte.
-pub fn put_ready_if_any(page: &mut Page<'_>, state: usize)
-    ensures { Put page.old (ready_bytes (machine_in state)) page.new }
-{
-    if nothing_shows(state) {
-        return;
-    }
-    if only_a_space(state) {
-        return page.put(b' ');
-    }
-    if only_a_newline(state) {
-        return page.put(b'\n');
-    }
-    put_ready(page, state);
+    put_break(page, m.waiting);
+    put_levels(page, line_then(m), m.indent);
 }

@@ -52,6 +52,7 @@ fn width_in(input: &[u8]) -> usize
 fn print_page(rt: &impl Print, wanted: Wanted, file: &[u8], page: &mut [u8]) -> io::Result<()>
     ensures { page.new ≡ with_page wanted file.now page.old }
 {
+    // a `match` over an enum's cases: each says something of its own, and a table of closures would be no plainer
     match wanted {
         Wanted::Document => {
             let a = html_document(file, page);

@@ -6,7 +6,6 @@ ghost use Rattle.std.specs.Prelude.{◌≡◌};
 ghost use Rattle.rules.specs.Result.{said};
 ghost use Rattle.rules.specs.Prints.{print_outcome};
 
-use laying::answer::BAD;
 use laying::marks::WORDS;
 use laying::whole::first_walk;
 use pages::frame::Kind;
@@ -24,8 +23,9 @@ pub fn print_at(file: &[u8], width: usize, page: &mut [u8]) -> Result<usize, Ref
     if MOST_COLUMNS < width {
         return Err(Refusal::TooWide);
     }
+    // fixed memory: there is no heap
     let mut bits = [0u64; WORDS];
-    if first_walk(file, width, &mut bits) == BAD {
+    if first_walk(file, width, &mut bits).is_none() {
         return check(file);
     }
     render_shown(Kind::Plain, file, &bits, page)

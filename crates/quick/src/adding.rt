@@ -1,4 +1,5 @@
 // Fields put behind what is written.
+// A tag or a code stays a number: the contracts here hold of every one (docs/CONTRACTS.md).
 ghost use Rattle.std.specs.Prelude.{◌≡◌, true, ◌+◌, ◌≤◌, length};
 ghost use Rattle.rules.specs.Encode.{field};
 ghost use Rattle.utf8.specs.Answer.{utf8_answer};

@@ -1,4 +1,5 @@
 // Anchors, blocks and fragments: opened and closed.
+// A tag or a code stays a number: the contracts here hold of every one (docs/CONTRACTS.md).
 ghost use Rattle.std.specs.Prelude.{◌≡◌, true, List, ℕ, ◌≤◌, length};
 ghost use Rattle.rules.specs.Encode.{field};
 ghost use Rattle.rules.specs.Walk.{anchor_content};

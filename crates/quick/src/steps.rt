@@ -15,7 +15,7 @@ use scribe::opened::code_at;
 use scribe::plan::{block_here, depth_in, fragment_here, text_here};
 use scribe::stepping::{Spot, sane};
 
-// The number of the last step that is done here.
+// The number of the last step that is done here. C gives a step by its number.
 pub const LAST_QUICK: u8 = 11;
 
 // What is open, where the numbers are such that a writer has.
@@ -44,6 +44,7 @@ fn by_code(
     ensures { (own : Bool) → Quickly result buf.old buf.new at top (plan op code own) (style_in style.now) v.now }
 {
     let kind = code / 32;
+    // a `match` over an enum's cases: each says something of its own, and a table of closures would be no plainer
     match op {
         Op::Text => text(buf, at, top, text_here(kind), style, v),
         Op::Space => leaf(buf, at, top, fragment_here(kind), 5, b""),

@@ -90,6 +90,7 @@ fn replay(rt: &impl Print, s: &mut [u8], page: &mut [u8]) -> io::Result<()> {
 }
 
 fn main(rt: HostRuntime) -> io::Result<()> {
+    // fixed memory: there is no heap
     let mut input = [0u8; 262144];
     let mut page = [0u8; 65536];
     let n = read_full(&mut rt.stdin(), &mut input)?;

@@ -40,7 +40,8 @@ impl From<u8> for Operation {
 // The bytes before a request's file: the operation, the width, the room, the file's length.
 pub const HEADER: usize = 11;
 
-// The number of its operation, its width and the room of its page; its file stands from `from` to `to`.
+// The number of its operation, its width and the room of its page; its file stands from `from` to `to`. `op` stays a number, as `request_at` of specs/Requests, which the
+// contracts cite, has it.
 #[derive(Debug, Clone, Copy, PartialEq, Eq)]
 pub struct Request {
     pub op: u8,

@@ -1,4 +1,5 @@
 // The rigid layout of a node: what it takes up whatever the width is.
+// A tag stays a byte of the file (`verify::tables`).
 
 #![tactic(auto)]
 
@@ -16,7 +17,8 @@ use fields::parts::field_end_in;
 use fields::{Field, field_in};
 use looks::lacks;
 use rules::MOST_TENTHS;
-use shapes::{ApproxLayout, append, block_or_mixed, first, inline, is_block};
+use shapes::ApproxLayout::{BlockOrMixed, Inline};
+use shapes::{ApproxLayout, append};
 use styles::byte_width_in;
 use texts::first_line_end;
 
@@ -54,9 +56,15 @@ fn lines_layout(v: &[u8], w: u16) -> ApproxLayout
 {
     let first = first_line_end(v);
     if first == v.len() {
-        return inline(columns(first, w), 0);
+        return Inline {
+            worst: columns(first, w),
+            excess: 0,
+        };
     }
-    block_or_mixed(columns(first, w), columns(after_last(v), w))
+    BlockOrMixed {
+        pre: columns(first, w),
+        post: columns(after_last(v), w),
+    }
 }
 
 // The text from..to. Most are short and of one line, which a quick look shows.
@@ -65,13 +73,16 @@ fn text_layout(s: &[u8], from: usize, to: usize, w: u16) -> ApproxLayout
     ensures { shape result ≡ text_in w (part s.now from to) }
 {
     if lacks(s, from, to, b'\n') {
-        return inline(columns(to - from, w), 0);
+        return Inline {
+            worst: columns(to - from, w),
+            excess: 0,
+        };
     }
     lines_layout(&s[from..to], w)
 }
 
-// Whether the value from..to of a 16 is a colour alone, which leaves a byte's width as it is. `false` says nothing. It stays beside `styles`' own, since the must-fail edit
-// `colour_of_four_bytes` is of this crate.
+// Whether the value from..to of a 16 is a colour alone, which leaves a byte's width as it is. `false` says nothing. `styles` has the same test for itself: the compiler puts a
+// function in place where it is called once (docs/DECISIONS.md).
 fn is_colour(s: &[u8], from: usize, to: usize) -> bool
     requires { (from ≤ to) × (to ≤ length s.now) }
     ensures { Says result (10 ≡ byte_width (effective (styles_in (part s.now from to)))) }
@@ -97,7 +108,10 @@ fn run_layout(s: &[u8], at: usize, end: usize) -> ApproxLayout
     ensures { shape result ≡ run_in (part s.now at end) }
 {
     let Field::Whole { tag, from, to } = field_in(s, at, end) else {
-        return inline(0, 0);
+        return Inline {
+            worst: 0,
+            excess: 0,
+        };
     };
     if tag != 16 {
         return text_layout(s, from, to, BYTE);
@@ -108,7 +122,10 @@ fn run_layout(s: &[u8], at: usize, end: usize) -> ApproxLayout
         to: e,
     } = field_in(s, to, end)
     else {
-        return inline(0, 0);
+        return Inline {
+            worst: 0,
+            excess: 0,
+        };
     };
     text_layout(s, f, e, style_width(s, from, to))
 }
@@ -125,13 +142,16 @@ fn with_run(so_far: ApproxLayout, s: &[u8], at: usize, to: usize) -> ApproxLayou
     append(so_far, run_layout(s, at + 3, to))
 }
 
-// The value from..end of a 2: its texts, one after the other.
+// The value from..end of a 2: its texts, one after the other. No `for`: a field ends where its own bytes say, and the next begins there.
 #[tactic(auto, using(crate::proofs::Runs::all_runs, crate::proofs::Places::ends_rise, crate::proofs::Places::ends_inside_file, crate::proofs::Places::ends_less, crate::proofs::Runs::next_run, crate::proofs::Runs::no_runs))]
 fn anchor_layout(s: &[u8], from: usize, end: usize) -> ApproxLayout
     requires { (from ≤ end) × (end ≤ length s.now) }
     ensures { shape result ≡ anchor_in (part s.now from end) }
 {
-    let mut so_far = inline(0, 0);
+    let mut so_far = Inline {
+        worst: 0,
+        excess: 0,
+    };
     let mut at = from;
     // no plainer by an iterator, whose `next` would have to find where each field ends
     while at < end {
@@ -146,11 +166,16 @@ fn anchor_layout(s: &[u8], from: usize, end: usize) -> ApproxLayout
 fn only_if_block(a: ApproxLayout) -> ApproxLayout
     ensures { shape result ≡ only_if_block (shape a) }
 {
-    if is_block(a) {
-        return inline(0, 0);
+    match a {
+        Inline { worst, .. } => Inline {
+            worst,
+            excess: worst,
+        },
+        BlockOrMixed { .. } => Inline {
+            worst: 0,
+            excess: 0,
+        },
     }
-    let worst = first(a);
-    inline(worst, worst)
 }
 
 // The value from..to of a 7.
@@ -169,9 +194,15 @@ pub fn approx_rigid_layout(tag: u8, s: &[u8], from: usize, to: usize) -> ApproxL
     match tag {
         1 => run_layout(s, from, to),
         2 => anchor_layout(s, from, to),
-        3 | 6 => block_or_mixed(0, 0),
-        5 => inline(BYTE, 0),
+        3 | 6 => BlockOrMixed { pre: 0, post: 0 },
+        5 => Inline {
+            worst: BYTE,
+            excess: 0,
+        },
         7 => if_block_layout(s, from, to),
-        _ => inline(0, 0),
+        _ => Inline {
+            worst: 0,
+            excess: 0,
+        },
     }
 }

@@ -7,4 +7,3 @@ pub mod BadLaws
 pub mod PieceLaws
 pub mod ActLaws
 pub mod StepLaws
-pub mod NumberLaws

@@ -1,20 +1,17 @@
-// A writer's step by numbers: what a caller in C gives, as the types of `moves`, and the answer in one number.
-ghost use Rattle.std.specs.Prelude.{◌≡◌, ℕ, ◌<◌, ◌^◌};
-ghost use Rattle.rules.specs.Answers.{coded};
-ghost use Rattle.rules.specs.Result.{refused};
-ghost use Rattle.moves.specs.Stepped.{refusal, said};
+// A writer's step by numbers: what a caller in C gives, as the types of `moves`.
+ghost use Rattle.std.specs.Prelude.{◌≡◌, ◌<◌, ◌^◌};
 ghost use Rattle.scribe.specs.InC.{numbered, style_in};
 
-use moves::{Op, Refusal, Style};
+use moves::{Op, Style};
 
-// A number of the writer's state.
+// A number of the writer's state. Std has no `From` of it, and `try_from` has a refusal that never comes.
 pub fn from_state(n: u32) -> usize
     ensures { (result ≡ n) × (result < 2 ^ 32) }
 {
     n as usize
 }
 
-// The last step's number.
+// The last step's number. C gives a step by its number.
 pub const LAST_STEP: u8 = 19;
 
 // The step of a number; a larger number is the last one's too. No `From` of `u8`: it may stand beside `Op` alone, in `moves`, and the numbers are C's.
@@ -67,35 +64,5 @@ pub fn style_in(s: &[u8; 18]) -> Style
         superscript: s[15] != 0,
         dim: s[16] != 0,
         underline: s[17] != 0,
-    }
-}
-
-// A refusal's number and place.
-#[tactic(auto, unfolding(moves::specs::Stepped::refusal))]
-fn told(r: Refusal) -> (u64, usize)
-    ensures { refusal {A = ℕ} r ≡ refused result.0 result.1 }
-{
-    match r {
-        Refusal::TooLong(p) => (1, p),
-        Refusal::TooDeep(p) => (6, p),
-        Refusal::NotUtf8(p) => (7, p),
-        Refusal::BadStyle(p) => (8, p),
-        Refusal::QuoteInAnchor(p) => (9, p),
-        Refusal::BufferTooShort(needed) => (10, needed),
-        Refusal::NotAllowed(p) => (11, p),
-    }
-}
-
-// 256 times the count or the place, and the refusal's number, or 0.
-pub fn answer_in_one(a: Result<usize, Refusal>) -> u64
-    requires { coded (said a) < 2 ^ 64 }
-    ensures { result ≡ coded (said a) }
-{
-    match a {
-        Ok(n) => (n as u64) * 256,
-        Err(r) => {
-            let (number, place) = told(r);
-            (place as u64) * 256 + number
-        }
     }
 }

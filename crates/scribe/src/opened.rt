@@ -17,7 +17,7 @@ pub fn code_at(buf: &[u8], top: usize) -> usize
     usize::from(buf[top - 1])
 }
 
-// The tag that a field gets when it is closed, by what is open.
+// The tag that a field gets when it is closed, by what is open. A kind stays a number, as in `plan`.
 #[tactic(auto, unfolding(moves::specs::Opened::true_tag))]
 fn true_tag(kind: usize) -> u8
     ensures { result ≡ true_tag kind }

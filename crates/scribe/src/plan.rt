@@ -1,5 +1,6 @@
 // What each step does where it is allowed: what it puts, closes and opens. A kind of what is open is a number and no enum: it is part of an unfinished header's
-// byte (docs/FORMAT, "While fields are open"), and the contracts of `fragment_here`, `text_here` and `depth_in` speak of every number.
+// byte (docs/FORMAT, "While fields are open"), and the contracts of `fragment_here`, `text_here` and `depth_in` speak of every number. A `match` over it or over the steps stays:
+// each arm says something of its own, and a table of closures would be no plainer.
 ghost use Rattle.std.specs.Prelude.{◌≡◌, ◌||◌, ◌≤◌, eqb};
 ghost use Rattle.moves.specs.Plans.{plan, fragment_here, depth_in, puts, shuts, opens, begins, next_plan, end_space_plan, end_comma_plan};
 
@@ -116,6 +117,7 @@ fn end_space_plan(kind: usize) -> Plan
     }
 }
 
+// Alike in shape with the plan above: its kinds and pieces as parameters would be no plainer.
 #[tactic(auto, unfolding(moves::specs::Plans::end_comma_plan))]
 fn end_comma_plan(kind: usize) -> Plan
     ensures { result ≡ end_comma_plan kind }

@@ -1,4 +1,5 @@
 // House fields, written at a position.
+// A tag or a code stays a number: the contracts here hold of every one (docs/CONTRACTS.md).
 ghost use Rattle.std.specs.Prelude.{[], ◌∷◌, ◌<◌, ◌/◌, ◌%◌, length};
 ghost use Rattle.rules.specs.Encode.{field};
 ghost use Rattle.scripts.specs.Shown.{open_header};

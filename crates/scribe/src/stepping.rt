@@ -152,7 +152,7 @@ fn taken(
     within(buf, at, top, p, st, v)
 }
 
-// Where the nodes of the open fragment begin, behind the 5 that a space join puts before an entry.
+// Where the nodes of the open fragment begin, behind the 5 that a space join puts before an entry. The code stays a number, as in `plan`.
 #[tactic(auto, unfolding(moves::specs::Plans::first_node))]
 fn first_node(code: usize, top: usize) -> usize
     requires { top ≤ 60_000 }

@@ -1,5 +1,6 @@
 // What a text's style says, as a writer is given it: the values of fields 32 to 39 as the file has them, each beside its flag. Sizes and bytes are two walks over
 // these fields and not one over a closure: a size is a sum and a put has a place, so all that the two would share is the order of eight lines.
+// A tag or a code stays a number: the contracts here hold of every one (docs/CONTRACTS.md).
 ghost use Rattle.std.specs.Prelude.{◌≡◌, ◌<◌, ◌≤◌, length};
 ghost use Rattle.scripts.specs.Shown.{run_bytes};
 ghost use Rattle.writing.specs.Written.{Written};

@@ -1,4 +1,3 @@
--- The laws of capped sums, of a layout's number and of appending.
-pub mod Numbers
+-- The laws of capped sums and of appending.
 pub mod Appending
 pub mod Determined

@@ -1,21 +1,9 @@
--- The shape that a layout's number says.
-use Rattle.std.specs.Prelude.{Bool, true, false, ℕ, ◌/◌, ◌%◌, leb}
-use Rattle.rules.specs.Layout.{Shape, Inline, Block}
+-- The shape that a layout says, in the words of the rules.
+use Rattle.rules.specs.Layout.{Shape}
+use Rattle.rules.specs.Layout as rules
+use Rattle.shapes.specs.declared.ApproxLayout.{ApproxLayout}
+use Rattle.shapes.specs.declared.ApproxLayout.TheVariants.{Inline, BlockOrMixed}
 
--- whether it has several lines
-unfoldable pub is_block : ℕ → Bool
-is_block n = leb 4_294_967_296 n
-
--- its two widths
-unfoldable pub first : ℕ → ℕ
-first n = (n / 65_536) % 65_536
-
-unfoldable pub second : ℕ → ℕ
-second n = n % 65_536
-
-unfoldable pub of_widths : Bool → (a b : ℕ) → Shape
-of_widths true a b = Block a b
-of_widths false a b = Inline a b
-
-unfoldable pub shape : ℕ → Shape
-shape n = of_widths (is_block n) (first n) (second n)
+abbrev pub shape : ApproxLayout → Shape
+shape (Inline worst excess) = rules.Inline worst excess
+shape (BlockOrMixed pre post) = rules.Block pre post

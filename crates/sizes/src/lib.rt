@@ -12,7 +12,7 @@ mod table;
 use digits::Decimal;
 use table::TABLE;
 
-// Where a size stands in the table.
+// Where a size stands in the table. No `From`: a size above 117 has no place.
 fn place(size: i8) -> usize
     requires { size ≤ℤ pos 117 }
     ensures { result ≡ place_of size }

@@ -1,4 +1,5 @@
 // The style record of a text, read from the value of a field 16.
+// A tag stays a byte of the file (`verify::tables`).
 
 #![tactic(auto)]
 
@@ -172,6 +173,7 @@ fn over_fields<A: Copy, F: Fn(A, u8, &[u8]) -> A>(v: &[u8], start: A, step: F) -
 {
     let mut a = start;
     let mut at = 0;
+    // no plainer by an iterator, whose `next` would have to find where each field ends
     while let Field::Whole { tag, from, to } = field_at(v, at) {
         a = step(a, tag, &v[from..to]);
         at = to;

@@ -9,6 +9,7 @@ ghost use Rattle.utf8.specs.Owing.{wanted, wanted_by, after};
 ghost use Rattle.utf8.specs.Answer.{utf8_answer};
 ghost use Rattle.utf8.specs.AllBits.{all_bits, four_bits};
 
+// An enum, which callers open by `let .. else`: document 01's form.
 #[derive(Debug, Clone, Copy, PartialEq, Eq)]
 pub enum Utf8 {
     Sound,
@@ -134,7 +135,7 @@ pub fn check_utf8(s: &[u8]) -> Utf8
     check_each(s)
 }
 
-// Whether `b` is among the bytes.
+// Whether `b` is among the bytes. Public, so that it stays, over std's.
 pub fn has_byte(s: &[u8], b: u8) -> bool
     ensures { result ≡ has b s.now }
 {

@@ -12,7 +12,7 @@ use crate::verdict::{SOUND, Verdict, fault, in_turn};
 use looks::calm;
 use utf8::{Utf8, check_utf8, has_byte};
 
-// No byte of ASCII is this one.
+// No byte of ASCII is this one; the contract of `calm` asks for a byte.
 pub const NONE: u8 = 255;
 
 // A text's bytes are UTF-8. Most are short and ASCII, which a quick look finds.

@@ -1,4 +1,5 @@
 // Quick looks at a text that is as most are: ASCII, with its styles in order. `true` says that it is sound, and `false` nothing: the exact check follows.
+// A tag stays a byte of the file (`verify::tables`).
 ghost use Rattle.std.specs.Prelude.{◌≡◌, true, false, [], ℕ, ◌+◌, ◌<◌, ◌≤◌, length, get_or, IfSome};
 ghost use Rattle.std.proofs.Math.Seq.{slice};
 ghost use Rattle.rules.specs.Utf8.{utf8};
@@ -119,6 +120,7 @@ fn is_plainly_styled(s: &[u8], from: usize, end: usize) -> bool
     requires { (from < end) × (end ≤ length s.now) × (get_or s.now from 0 ≡ 16) }
     ensures { Says result ((d place : ℕ) → Between s.now place from end → RestSaid false in_text [] d 0 place from (slice from end s.now) (accepted tt)) }
 {
+    // by returns: what follows has a name, which stands behind the test that makes it right
     if end - from < 6 || s[from + 1] != 0 {
         return false;
     }

@@ -1,4 +1,5 @@
 // The tags that a 16 has had so far: the last one, and those that matter at its end; and what is wrong there.
+// A tag stays a byte of the file (`verify::tables`).
 ghost use Rattle.std.specs.Prelude.{◌≡◌, ◌<◌, ◌^◌};
 ghost use Rattle.rules.specs.Result.{sound};
 ghost use Rattle.verify.specs.Said.{verdict};

@@ -1,4 +1,5 @@
 // A style's field: its fixed length, and what it says.
+// A tag stays a byte of the file (`verify::tables`).
 ghost use Rattle.std.specs.Prelude.{◌≡◌, ℕ, ◌<◌, ◌≤◌, ◌^◌, length};
 ghost use Rattle.rules.specs.Limits.{first_style, last_style};
 ghost use Rattle.rules.specs.Bytes.{number};
@@ -29,7 +30,7 @@ pub fn told(c: Result<(), StyleFault>, place: usize) -> Verdict
     }
 }
 
-// Four bytes as a number, high byte first.
+// Four bytes as a number, high byte first. Public, so that it stays, over std's.
 #[tactic(auto, using(rules::proofs::Lengths::number_four))]
 pub fn word(v: &[u8]) -> usize
     requires { length v.now ≡ 4 }

@@ -1,4 +1,5 @@
-// The table of fields: which tags are allowed where, and fixed lengths.
+// The table of fields: which tags are allowed where, and fixed lengths. A tag is a byte of the file and stays one: any of the 256 may stand there, and the rules'
+// `allowed` and the contracts here speak of every one.
 ghost use Rattle.std.specs.Prelude.{◌≡◌, ◌≤◌};
 ghost use Rattle.rules.specs.Limits.{first_style, last_style};
 ghost use Rattle.rules.specs.Walk.{allowed, right_length, is_block, in_fragment, in_anchor, in_styles};

@@ -1,5 +1,6 @@
-// What a check of a part of a file says, in one number: 0 where all is sound, else 256 times the place of the first fault, and its number. The walk
-// hands it on at every field, and one number is handed on faster than an enum.
+// What a check of a part of a file says, in one number: 0 where all is sound, else 256 times the place of the first fault, and its number. Tried:
+// `Result<(), Refusal>` and `?` prove, but go through memory at each field. The check takes up to 10 % more instructions, and HTML of small nodes of 10 KB falls to 3.4 times
+// as fast as the Rust, under its goal of 3.5, which this form meets (docs/SPEED.md).
 ghost use Rattle.std.specs.Prelude.{◌≡◌, ◌<◌, ◌^◌};
 ghost use Rattle.rules.specs.Result.{refused};
 ghost use Rattle.verify.specs.Said.{verdict, both_said};

@@ -1,5 +1,6 @@
 // The walk: the fields of a fragment and of a block, from `from` to `end`, and the whole file.
 // Each kind of value has a loop of its own (document 01's form): it moves by the length that the bytes say, and ends at a fault with its place.
+// A tag stays a byte of the file (`verify::tables`).
 ghost use Rattle.std.specs.Prelude.{◌≡◌, [], ℕ, ◌+◌};
 ghost use Rattle.std.proofs.Math.Seq.{slice};
 ghost use Rattle.rules.specs.Walk.{in_fragment, in_block};

@@ -1,13 +1,14 @@
 -- `hazomeny::hazomeny_html_body` meets its contract: the answer in one number, which fits 64 bits, and the same bytes.
 use Rattle.rules.proofs.Basics.{arith}
 use Rattle.rules.specs.Alike.{html_body}
+use Rattle.answers.proofs.Turned.{outcome_turned}
 use Rattle.hazomeny.proofs.Fits.{page_fits, coded_pair}
 use Rattle.hazomeny.proofs.hazomeny_html_body.Goals as goal
 
 pub in_one-requires : goal.in_one-requires
 in_one-requires c =
-    page_fits html_body _ _ c.html_body.ensures
+    page_fits html_body _ _ (outcome_turned _ _ c.map_err.ensures.cases c.html_body.ensures)
     (λ i. omega (arith, c.type_inv.file i))
 
 pub returns : goal.returns
-returns c = coded_pair _ c.in_one.ensures c.html_body.ensures
+returns c = coded_pair _ c.in_one.ensures (outcome_turned _ _ c.map_err.ensures.cases c.html_body.ensures)

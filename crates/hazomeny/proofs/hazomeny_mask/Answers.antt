@@ -1,10 +1,11 @@
 -- `hazomeny::hazomeny_mask` meets its contract: the answer in one number, which fits 64 bits, and the same bytes.
 use Rattle.rules.proofs.Basics.{arith}
+use Rattle.answers.proofs.Turned.{outcome_turned}
 use Rattle.hazomeny.proofs.Fits.{mask_fits, coded_pair}
 use Rattle.hazomeny.proofs.hazomeny_mask.Goals as goal
 
 pub in_one-requires : goal.in_one-requires
-in_one-requires c = mask_fits _ _ c.mask_file.ensures (λ i. omega (arith, c.type_inv.file i))
+in_one-requires c = mask_fits _ _ (outcome_turned _ _ c.map_err.ensures.cases c.mask_file.ensures) (λ i. omega (arith, c.type_inv.file i))
 
 pub returns : goal.returns
-returns c = coded_pair _ c.in_one.ensures c.mask_file.ensures
+returns c = coded_pair _ c.in_one.ensures (outcome_turned _ _ c.map_err.ensures.cases c.mask_file.ensures)

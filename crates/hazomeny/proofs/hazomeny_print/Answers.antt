@@ -1,12 +1,13 @@
 -- `hazomeny::hazomeny_print` meets its contract: the answer in one number, which fits 64 bits, and the same bytes.
 use Rattle.rules.proofs.Basics.{arith}
+use Rattle.answers.proofs.Turned.{outcome_turned}
 use Rattle.hazomeny.proofs.Fits.{print_fits, coded_pair}
 use Rattle.hazomeny.proofs.hazomeny_print.Goals as goal
 
 pub in_one-requires : goal.in_one-requires
 in_one-requires c =
-    print_fits _ _ _ c.print_at.ensures
+    print_fits _ _ _ (outcome_turned _ _ c.map_err.ensures.cases c.print_at.ensures)
     (λ i. omega (arith, c.type_inv.file i))
 
 pub returns : goal.returns
-returns c = coded_pair _ c.in_one.ensures c.print_at.ensures
+returns c = coded_pair _ c.in_one.ensures (outcome_turned _ _ c.map_err.ensures.cases c.print_at.ensures)

@@ -5,6 +5,7 @@ use Rattle.rules.specs.Answers.{laid_out_by, left_laid, layout_outcome_by}
 use Rattle.rules.specs.Result.{◌>>=◌, ◌>>◌, need, said, refusal}
 use Rattle.rules.specs.Prints.{printed, print_outcome}
 use Rattle.verify.proofs.Verdicts.{every_byte}
+use Rattle.laying.proofs.Layouts.{some_there, none_there}
 use Rattle.laying.proofs.Clears.{no_marks}
 use Rattle.pages.specs.Kinds.{page_outcome}
 use Rattle.prints.proofs.Laws.{print_refused, walk_shown, print_shown}
@@ -22,16 +23,16 @@ pub first_walk-requires : goal.first_walk-requires
 first_walk-requires c =
     (c.if-file-gt-MOST_BYTES.false, (c.if-width-gt-MOST_COLUMNS.false, no_marks _ c.if-file-gt-MOST_BYTES.false))
 
-pub returns-then-first_walk-eq-BAD : goal.returns-then-first_walk-eq-BAD
-returns-then-first_walk-eq-BAD c = print_refused c.first_walk.ensures c.if-first_walk-eq-BAD.true _ c.check.ensures
+pub returns-then-is_none : goal.returns-then-is_none
+returns-then-is_none c = print_refused c.first_walk.ensures (none_there _ c.if-is_none.ensures) _ c.check.ensures
 
 pub slice_bounds-render_shown-end : goal.slice_bounds-render_shown-end
 slice_bounds-render_shown-end c = sym c.first_walk.ensures.words
 
 pub render_shown-requires : goal.render_shown-requires
 render_shown-requires c =
-    walk_shown c.first_walk.ensures c.if-first_walk-eq-BAD.false (every_byte c.args.file.now (λ i. omega (arith, c.shared_slice_known-1.given i)))
+    walk_shown c.first_walk.ensures (some_there c.if-is_none.ensures) (every_byte c.args.file.now (λ i. omega (arith, c.shared_slice_known-1.given i)))
 
 pub returns : goal.returns
 returns c =
-    unfold page_outcome in print_shown c.first_walk.ensures c.if-first_walk-eq-BAD.false _ c.render_shown.ensures
+    unfold page_outcome in print_shown c.first_walk.ensures (some_there c.if-is_none.ensures) _ c.render_shown.ensures

@@ -37,7 +37,7 @@ decreases-approx_layout-loop-at l = l.end - l.at
 abbrev pub invariant-approx_stretch_layout-loop-node :
     goal.invariant-approx_stretch_layout-loop-node
 invariant-approx_stretch_layout-loop-node l =
-    BlocksAt l.depth l.inline_max l.block_max l.start l.bound (shape l.so_far) l.s l.end l.initial.bits l.node (shape l.layout) l.bits
+    BlocksAt l.depth l.inline_max l.block_max l.start l.bound (shape l.fn.so_far) l.s l.end l.initial.bits l.node (shape l.layout) l.bits
 
 abbrev pub decreases-approx_stretch_layout-loop-node :
     goal.decreases-approx_stretch_layout-loop-node

@@ -1,6 +1,6 @@
 -- `laying::stretch::ahead` meets its contract. The loop's invariant: what is left of the stretch, for its layout and for its check.
-use Rattle.rules.proofs.Basics.{refl, sym, ◌∙◌, arith, rules}
-use Rattle.shapes.proofs.Numbers.{line, lines}
+use Rattle.rules.proofs.Basics.{refl, sym, ap, ◌∙◌, arith, rules}
+use Rattle.shapes.specs.Shapes.{shape}
 use Rattle.verify.proofs.RestLaws.{field_there, begins, rising, in_the_part, value_part}
 use Rattle.laying.proofs.Passing.{no_field_wrong, tag_wrong, leaf_wrong}
 use Rattle.laying.proofs.StretchLaws.{along_starts, along_wrong, block_on, leaf_on, along_on, along_stops, along_ends}
@@ -25,29 +25,27 @@ returns-then-not-in_fragment c =
     let I = c.loop-at.invariant in let P = I.looked.part in let A = field_there P c.field_in-f.ensures c.in-Whole.is in
     along_wrong I (λ d. tag_wrong P d A (sym c.in_fragment.ensures ∙ c.if-not-in_fragment.true))
 
-pub rigid_node-own-requires : goal.rigid_node-own-requires
-rigid_node-own-requires c =
+pub rigid_node-requires : goal.rigid_node-requires
+rigid_node-requires c =
     let P = c.loop-at.invariant.looked.part in let A = field_there P c.field_in-f.ensures c.in-Whole.is in
     record { right_tag = sym c.in_fragment.ensures ∙ c.if-not-in_fragment.false; value = rw (begins A) (value_part P A) }
 
-pub returns-then-own-eq-BAD : goal.returns-then-own-eq-BAD
-returns-then-own-eq-BAD c =
-    let I = c.loop-at.invariant in let P = I.looked.part in let A = field_there P c.field_in-f.ensures c.in-Whole.is in
-    along_wrong I (λ d. leaf_wrong P A (sym c.in_fragment.ensures ∙ c.if-not-in_fragment.false) c.rigid_node-own.ensures c.if-own-eq-BAD.true d)
+pub returns : goal.returns
+returns c = along_ends c.loop-at.invariant (search rules) c.loop-at-test.false refl
 
-pub returns-then-is_block-2 : goal.returns-then-is_block-2
-returns-then-is_block-2 c =
+pub returns-in_err-own : goal.returns-in_err-own
+returns-in_err-own c =
+    let I = c.loop-at.invariant in let P = I.looked.part in let A = field_there P c.field_in-f.ensures c.in-Whole.is in
+    rw c.from_residual.ensures (along_wrong I (λ d. leaf_wrong P A (sym c.in_fragment.ensures ∙ c.if-not-in_fragment.false) c.in_err-own.ensures refl d))
+
+pub returns-in-BlockOrMixed : goal.returns-in-BlockOrMixed
+returns-in-BlockOrMixed c =
     let I = c.loop-at.invariant in let P = I.looked.part in
-    let A = field_there P c.field_in-f.ensures c.in-Whole.is in let R = sym c.in_fragment.ensures ∙ c.if-not-in_fragment.false in let N = c.rigid_node-own.ensures in let o = c.if-own-eq-BAD.false in
-    along_stops I A R N o (elim c.if-is_block.branch [ then-is_block h ↦ block_on I A R N o c.is_block.ensures h.if-is_block.true (h.start-is ∙ h.first_of-start.ensures) h.bound-is | else-is_block h ↦ leaf_on I A R N o c.is_block.ensures h.if-is_block.false h.start-is h.bound-is ])
-    (lines _ c.is_block-in-loop-at.ensures c.first.ensures refl c.if-is_block-2.true) c.inline.ensures c.append.ensures
+    let A = field_there P c.field_in-f.ensures c.in-Whole.is in let R = sym c.in_fragment.ensures ∙ c.if-not-in_fragment.false in let N = c.in_ok-own.ensures in
+    rw (← ap shape c.in-BlockOrMixed.is) (along_stops I A R N (elim c.if-is_block.branch [ then-is_block h ↦ block_on I A R N c.is_block.ensures h.if-is_block.true (h.start-is ∙ h.first_of-start.ensures) h.bound-is | else-is_block h ↦ leaf_on I A R N c.is_block.ensures h.if-is_block.false h.start-is h.bound-is ]) (ap shape c.in-BlockOrMixed.is) refl c.append.ensures)
 
 pub loop-at-preserved : goal.loop-at-preserved
 loop-at-preserved c =
     let I = c.loop-at.invariant in let P = I.looked.part in
-    let A = field_there P c.field_in-f.ensures c.in-Whole.is in let R = sym c.in_fragment.ensures ∙ c.if-not-in_fragment.false in let N = c.rigid_node-own.ensures in let o = c.if-own-eq-BAD.false in
-    along_on I A R N o (elim c.if-is_block.branch [ then-is_block h ↦ block_on I A R N o c.is_block.ensures h.if-is_block.true (h.start-is ∙ h.first_of-start.ensures) h.bound-is | else-is_block h ↦ leaf_on I A R N o c.is_block.ensures h.if-is_block.false h.start-is h.bound-is ])
-    (line _ c.is_block-in-loop-at.ensures refl refl c.if-is_block-2.false) c.append-layout.ensures
-
-pub returns : goal.returns
-returns c = along_ends c.loop-at.invariant (search rules) c.loop-at-test.false c.inline-2.ensures
+    let A = field_there P c.field_in-f.ensures c.in-Whole.is in let R = sym c.in_fragment.ensures ∙ c.if-not-in_fragment.false in let N = c.in_ok-own.ensures in
+    along_on I A R N (elim c.if-is_block.branch [ then-is_block h ↦ block_on I A R N c.is_block.ensures h.if-is_block.true (h.start-is ∙ h.first_of-start.ensures) h.bound-is | else-is_block h ↦ leaf_on I A R N c.is_block.ensures h.if-is_block.false h.start-is h.bound-is ]) (ap shape c.in_default-own.is) c.append-layout.ensures

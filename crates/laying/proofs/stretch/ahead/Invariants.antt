@@ -5,7 +5,7 @@ use Rattle.laying.proofs.StretchLaws.{Along}
 use Rattle.laying.proofs.stretch.ahead.Given as goal
 
 abbrev pub invariant-loop-at : goal.invariant-loop-at
-invariant-loop-at l = Along l.s l.end l.from (shape l.so_far) l.at (shape l.layout) l.start l.bound
+invariant-loop-at l = Along l.s l.end l.from (shape l.fn.so_far) l.at (shape l.layout) l.start l.bound
 
 abbrev pub decreases-loop-at : goal.decreases-loop-at
 decreases-loop-at l = l.end - l.at

@@ -3,6 +3,7 @@ use Rattle.rules.proofs.Basics.{le-leb, lt-leb}
 use Rattle.rules.specs.Limits.{most_bytes, most_columns}
 use Rattle.rules.specs.Answers.{laid_out_by, left_laid, layout_outcome_by}
 use Rattle.rules.specs.Result.{◌>>=◌, ◌>>◌, need, said, refusal}
+use Rattle.laying.proofs.Layouts.{some_there}
 use Rattle.laying.proofs.WholeLaws.{shown_outcome}
 use Rattle.laying.proofs.Clears.{no_marks}
 use Rattle.laying.proofs.whole.layout_with_max_line_width.Goals as goal
@@ -21,4 +22,4 @@ first_walk-requires c =
 
 pub returns : goal.returns
 returns c =
-    unfold said in let S = c.show_all.ensures in shown_outcome S (c.first_walk.ensures.laid c.if-first_walk-eq-BAD.false _ S.bytes)
+    unfold said in let S = c.show_all.ensures in shown_outcome S (c.first_walk.ensures.laid (some_there c.if-is_none.ensures) _ S.bytes)

@@ -3,9 +3,7 @@ use Rattle.rules.proofs.Basics.{refl, arith}
 use Rattle.fields.proofs.Spans.{end_rises, end_within, end_less}
 use Rattle.lines.specs.Said.{break_of}
 use Rattle.writing.proofs.Laws.{same_page}
-use Rattle.pens.specs.Ran.{indent_of}
-use Rattle.pens.proofs.Running.{nothing, and_then}
-use Rattle.pens.proofs.Breaks.{break_level, indent_level}
+use Rattle.pens.proofs.Running.{nothing, and_then, deeper}
 use Rattle.pages.specs.OpsIn.{fragments_by, three_in, four_in, fragment_in}
 use Rattle.pages.proofs.Going.{going_starts, going_more, going_ends}
 use Rattle.pages.proofs.WalkLaws.{cut_node, node_three, node_four, node_leaf, chosen_four, a_four, a_three, fragment_ops, no_nodes}
@@ -62,22 +60,15 @@ unfolding three_in
 render_indented-returns-then-left-eq0 t c = rw c.if-left-eq0.true nothing
 
 pub render_indented-deeper-requires : goal.render_indented-deeper-requires
-unfolding indent_of
 render_indented-deeper-requires t c = omega (arith, c.requires.0)
 
 pub render_indented-render_fragments-requires : goal.render_indented-render_fragments-requires
-unfolding indent_of
 render_indented-render_fragments-requires t c =
-    (omega (arith, c.decreases), (omega (arith, break_level c.broken-pen.ensures, indent_level c.deeper.ensures, c.requires.0), c.requires.1))
-
-pub render_indented-less_deep-pen-requires : goal.render_indented-less_deep-pen-requires
-unfolding indent_of
-render_indented-less_deep-pen-requires t c =
-    omega (arith, c.render_fragments.ensures.indent_kept, break_level c.broken-pen.ensures, indent_level c.deeper.ensures)
+    (omega (arith, c.decreases), (omega (arith, c.broken.ensures.indent_kept, deeper c.deeper.ensures, c.requires.0), c.requires.1))
 
 pub render_indented-returns : goal.render_indented-returns
 unfolding break_of
-render_indented-returns t c = a_three _ _ _ _ c.if-left-eq0.false c.deeper.ensures c.broken-pen.ensures c.render_fragments.ensures c.less_deep-pen.ensures
+render_indented-returns t c = a_three _ _ _ _ c.if-left-eq0.false c.deeper.ensures c.broken.ensures c.render_fragments.ensures c.less_deep.ensures
 
 pub render_inner-returns-then-s-le3 : goal.render_inner-returns-then-s-le3
 render_inner-returns-then-s-le3 t c = no_nodes _ _ _ _ _ c.if-s-le3.true

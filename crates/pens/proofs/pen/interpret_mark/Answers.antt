@@ -1,5 +1,5 @@
 -- `pens::pen::interpret_mark` meets its contract: nothing shows, or what stands before it and its tags.
-use Rattle.rules.proofs.Basics.{sym, ◌∙◌}
+use Rattle.rules.proofs.Basics.{refl, sym, ◌∙◌}
 use Rattle.pens.proofs.Pens.{mark_no_text}
 use Rattle.pens.proofs.Quiet.{quiet_mark}
 use Rattle.pens.proofs.BeforeItems.{mark_ready}
@@ -11,9 +11,5 @@ returns-then-nothing_shows c = quiet_mark _ _ c.requires (sym c.nothing_shows.en
 pub put_mark-requires : goal.put_mark-requires
 put_mark-requires c = mark_no_text _ c.requires
 
-pub on_line-pen-requires : goal.on_line-pen-requires
-on_line-pen-requires c = c.line_ready.ensures.1
-
 pub returns : goal.returns
-returns c =
-    mark_ready _ c.put_ready.ensures c.form_in.ensures _ c.requires c.put_mark.ensures c.line_ready.ensures c.on_line-pen.ensures
+returns c = mark_ready _ c.put_ready.ensures _ _ c.requires c.put_mark.ensures c.line_ready-line.ensures c.on_line.ensures refl

@@ -1,0 +1,2 @@
+-- What an answer by numbers says.
+pub mod ByNumber
