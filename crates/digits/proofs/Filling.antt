@@ -1,5 +1,5 @@
--- An array that is filled from its end: what is left of a number stands before the digits that are done. One law serves every loop that fills one.
-use Rattle.rules.proofs.Basics.{◌≡◌, refl, sym, ap, ◌∙◌, List, [], ◌∷◌, ◌++◌, append_assoc, ℕ, suc, ◌+◌, ◌<◌, add-one, arith, length, length-set, length-take-le, set, take, drop, drop_at}
+-- An array that is filled from its end: what is left of a number stands before the digits that are done. One law serves every byte that is put in.
+use Rattle.rules.proofs.Basics.{◌≡◌, sym, ap, ◌∙◌, List, [], ◌∷◌, ◌++◌, append_assoc, ℕ, suc, ◌+◌, ◌<◌, add-one, arith, length, length-set, length-take-le, set, take, drop, drop_at}
 use lib.Seq.{set_split}
 use Rattle.digits.specs.Room.{room}
 

@@ -7,7 +7,7 @@ use Rattle.rules.specs.Plain.{fill}
 use Rattle.looks.specs.Calm.{Clear}
 use Rattle.writing.specs.declared.Page.{Page}
 use Rattle.writing.specs.Written.{last, moved, Written, Put}
-use Rattle.writing.proofs.Laws.{nothing, then, put_then}
+use Rattle.writing.proofs.Laws.{nothing, then, put_nothing, put_then}
 use Rattle.writing.proofs.Turns.{stored}
 use Rattle.escaping.specs.Runs.{escaped_text, Plain, PlainTo, Copied, Begun}
 use Rattle.escaping.proofs.EscapeLaws.{escaped_byte, more, no_bytes, text_append, last_byte, all}
@@ -78,6 +78,9 @@ module _ {page text page' : List ℕ} {at n : ℕ} (f : Copied page at text page
       }
 
 -- ---- a text that is begun
+
+pub none_begun : {p : Page} {text : List ℕ} → Begun p text p 0
+none_begun = record { within = omega arith; put = rw (no_bytes escape) put_nothing }
 
 -- by bytes that were counted, or copied
 pub counted_begun : {p q : Page} {text : List ℕ} {n : ℕ} → PlainTo text n → Put p (take n text) q → Begun p text q n

@@ -103,11 +103,13 @@ fn put_plain(page: &mut Page<'_>, text: &[u8]) -> usize
 pub fn put_escaped(page: &mut Page<'_>, text: &[u8])
     ensures { Put page.old (fill itself (items_html escape (map (λ y. char (copied y)) text.now))) page.new }
 {
-    // `i` goes on by a byte and the run behind it: a `for` over the bytes would count what the run has passed.
-    let mut i = put_plain(page, text);
+    // `i` goes on by a run and the byte behind it: a `for` over the bytes would count what the run has passed.
+    let mut i = 0;
     while i < text.len() {
-        put_escape(page, text[i]);
-        i += 1;
         i += put_plain(page, &text[i..]);
+        if i < text.len() {
+            put_escape(page, text[i]);
+            i += 1;
+        }
     }
 }

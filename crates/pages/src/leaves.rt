@@ -116,7 +116,8 @@ fn render_if_block(v: &[u8], pen: &mut Pen<'_>, directly_in_block: bool)
     }
 }
 
-// A node that is no block, by its tag; its value stands at from..to.
+// A node that is no block, by its tag; its value stands at from..to. It is put into the walk, as the functions there are.
+#[inline(always)]
 pub fn render_leaf(
     tag: u8,
     s: &[u8],

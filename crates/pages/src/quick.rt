@@ -38,7 +38,9 @@ pub fn one_long_line(s: &[u8], from: usize, to: usize) -> bool
     if to - from < 8 {
         return false;
     }
-    for at in (from..to - 7).step_by(8) {
+    // by the windows' numbers: an iterator that steps by eight counts each byte between
+    for n in 0..(to - from) / 8 {
+        let at = from + 8 * n;
         if !lacks(s, at, at + 8, b'\n') {
             return false;
         }

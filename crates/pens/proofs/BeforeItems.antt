@@ -101,6 +101,10 @@ pub fewer_levels : (k t : ℕ) {p q : Page} → k ≤ t → Put p (replicate (2 
 unfolding levels_bytes
 fewer_levels k t h w = rw (le-ltb t k h) w
 
+pub no_levels : (t : ℕ) {p : Page} → t ≡ 0 → Put p (levels_bytes 0 t) p
+unfolding levels_bytes
+no_levels t e = rw e writing.put_nothing
+
 pub too_many : (k t : ℕ) {p q r : Page} → t < k → Put p (10 ∷ []) q → Put q (replicate (2 * t) 32) r → Put p (levels_bytes k t) r
 unfolding levels_bytes
 too_many k t h w w' = rw (lt-ltb t k h) (writing.put_then w w')

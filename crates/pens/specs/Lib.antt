@@ -1,4 +1,4 @@
--- The pen: its state as a number, and what running line operations leaves on a page.
+-- The pen: its machine and its form, and what running line operations leaves on a page.
 pub mod Ops
 pub mod States
 pub mod Ran

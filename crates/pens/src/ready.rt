@@ -29,7 +29,8 @@ pub(crate) fn put_indent(page: &mut Page<'_>, levels: usize)
     page.put_spaces(levels.saturating_mul(2));
 }
 
-// From k levels to the indent: a line that has too many is left for a new one.
+// From k levels to the indent: a line that has too many is left for a new one. It is long, and stays out of `put_ready`, which is short and runs for every text.
+#[inline(never)]
 fn put_from(page: &mut Page<'_>, k: usize, indent: usize)
     ensures { Put page.old (levels_bytes k indent) page.new }
 {
@@ -45,13 +46,19 @@ fn put_levels(page: &mut Page<'_>, line: LineState, indent: usize)
     ensures { Put page.old (line_bytes indent (line_of line)) page.new }
 {
     match line {
-        LineState::Empty => put_indent(page, indent),
+        LineState::Empty => {
+            // at the margin, where most lines of many a page begin, nothing is owed
+            if 0 < indent {
+                put_from(page, 0, indent);
+            }
+        }
         LineState::Indented(k) => put_from(page, k, indent),
         LineState::HasText => {}
     }
 }
 
-// Both.
+// Both. It is put into each of its callers, for a text mostly has nothing before it, or one byte.
+#[inline(always)]
 pub fn put_ready(page: &mut Page<'_>, m: &Machine)
     ensures { Put page.old (ready_bytes (machine_of m.now)) page.new }
 {
