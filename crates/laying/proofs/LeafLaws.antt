@@ -26,7 +26,7 @@ use Rattle.verify.proofs.GlanceLaws.{filled_alone}
 use Rattle.verify.proofs.SaidLaws.{faulty_said, sound_said}
 use Rattle.shapes.specs.declared.ApproxLayout.{ApproxLayout}
 use Rattle.laying.proofs.Layouts.{no_layout, fine}
-use Rattle.laying.specs.Told.{Fine, LeafSaid, LeafTold, NodeTold}
+use Rattle.laying.specs.Told.{Fine, LeafSaid, LeafTold, NodeTold, Valued}
 
 pub no_block : {t : ℕ} → (t ≡ 3 → ⊥) → (t ≡ 4 → ⊥) → is_block t ≡ false
 unfolding is_block
@@ -100,6 +100,26 @@ among t lo hi n1 n2 n3 n4 n5 n7 = let high : 4 < t = low t lo n1 n2 n3 n4 in hig
 
     high_six : (t : ℕ) → 4 < t → t ≤ 7 → (t ≡ 5 → ⊥) → (t ≡ 7 → ⊥) → t ≡ 6
     high_six t h hi n5 n7 = omega arith
+
+-- .. whose field has a value
+seven : (t : ℕ) → 1 ≤ t → t ≤ 7 → (t ≡ 1 → ⊥) → (t ≡ 2 → ⊥) → (t ≡ 3 → ⊥) → (t ≡ 4 → ⊥) → (t ≡ 5 → ⊥) → (t ≡ 6 → ⊥) → t ≡ 7
+seven t lo hi n1 n2 n3 n4 n5 n6 = let high : 4 < t = low t lo n1 n2 n3 n4 in high_seven t high hi n5 n6
+  where
+    low : (t : ℕ) → 1 ≤ t → (t ≡ 1 → ⊥) → (t ≡ 2 → ⊥) → (t ≡ 3 → ⊥) → (t ≡ 4 → ⊥) → 4 < t
+    low t lo n1 n2 n3 n4 = omega arith
+
+    high_seven : (t : ℕ) → 4 < t → t ≤ 7 → (t ≡ 5 → ⊥) → (t ≡ 6 → ⊥) → t ≡ 7
+    high_seven t h hi n5 n6 = omega arith
+
+-- a leaf that is neither a 5 nor a 6
+pub has_value : {s : List ℕ} {t at to : ℕ} → Leaf s t at to → (t ≡ 5 → ⊥) → (t ≡ 6 → ⊥) → Valued t
+unfolding is_block
+has_value {t = t} L n5 n6 =
+    let (lo, hi) = fragment_tags {before = 0} (record { yes = L.node.right_tag }) in
+    let n = not_either (eqb t 3) (eqb t 4) L.no_block in
+    let n3 : t ≡ 3 → ⊥ = λ e. n.0 (eq-eqb t 3 e) in
+    let n4 : t ≡ 4 → ⊥ = λ e. n.1 (eq-eqb t 4 e) in
+    record { last = λ n1 n2. seven t lo hi n1 n2 n3 n4 n5 n6 }
 
 -- a 5 or a 6
 module _ {s : List ℕ} {t at to : ℕ} (L : Leaf s t at to) (n1 : t ≡ 1 → ⊥) (n2 : t ≡ 2 → ⊥) (n7 : t ≡ 7 → ⊥) where

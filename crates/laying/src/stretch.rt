@@ -24,11 +24,12 @@ pub struct Stretch {
     pub last: ApproxLayout,
 }
 
-// The first 3 or 4 of the stretch that begins at `from`, at a later one: `at` where none was seen.
-fn first_of(from: usize, first: usize, bound: usize, at: usize) -> usize
-    ensures { result ≡ (if eqb bound from then at else first) }
+// The first 3 or 4 of the stretch, at a later one: `at` where none was seen, since the last then ends where the first stands. Where the stretch begins
+// would say the same, but the loop below has no register left for it.
+fn first_of(first: usize, bound: usize, at: usize) -> usize
+    ensures { result ≡ (if eqb bound first then at else first) }
 {
-    if bound == from {
+    if bound == first {
         return at;
     }
     first
@@ -71,23 +72,28 @@ pub fn ahead(s: &[u8], from: usize, end: usize, so_far: ApproxLayout) -> Option<
         }
         let own = rigid_node(s, at, to, tag)?;
         if tables::is_block(tag) {
-            start = first_of(from, start, bound, at);
+            start = first_of(start, bound, at);
             bound = to;
         }
-        if let BlockOrMixed { pre, .. } = own {
-            let before = Inline {
-                worst: pre,
-                excess: 0,
-            };
-            return Some(Stretch {
-                layout: append(layout, before),
-                first: start,
-                bound,
-                stop: to,
-                last: own,
-            });
+        match own {
+            BlockOrMixed { pre, .. } => {
+                let before = Inline {
+                    worst: pre,
+                    excess: 0,
+                };
+                return Some(Stretch {
+                    layout: append(layout, before),
+                    first: start,
+                    bound,
+                    stop: to,
+                    last: own,
+                });
+            }
+            // built again in place of `own`, so that `append` does not ask a second time which of the two it is
+            Inline { worst, excess } => {
+                layout = append(layout, Inline { worst, excess });
+            }
         }
-        layout = append(layout, own);
         at = to;
     }
     Some(Stretch {

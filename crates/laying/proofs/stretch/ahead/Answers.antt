@@ -48,4 +48,4 @@ pub loop-at-preserved : goal.loop-at-preserved
 loop-at-preserved c =
     let I = c.loop-at.invariant in let P = I.looked.part in
     let A = field_there P c.field_in-f.ensures c.in-Whole.is in let R = sym c.in_fragment.ensures ∙ c.if-not-in_fragment.false in let N = c.in_ok-own.ensures in
-    along_on I A R N (elim c.if-is_block.branch [ then-is_block h ↦ block_on I A R N c.is_block.ensures h.if-is_block.true (h.start-is ∙ h.first_of-start.ensures) h.bound-is | else-is_block h ↦ leaf_on I A R N c.is_block.ensures h.if-is_block.false h.start-is h.bound-is ]) (ap shape c.in_default-own.is) c.append-layout.ensures
+    along_on I A R N (elim c.if-is_block.branch [ then-is_block h ↦ block_on I A R N c.is_block.ensures h.if-is_block.true (h.start-is ∙ h.first_of-start.ensures) h.bound-is | else-is_block h ↦ leaf_on I A R N c.is_block.ensures h.if-is_block.false h.start-is h.bound-is ]) (ap shape c.in-Inline.is) (ap shape c.in-Inline.is) c.append-layout.ensures
